@@ -71,8 +71,8 @@ if [ -n "$library" ]; then
   } >"$made/ptab.pc"
   for header in "$here"/include/*.h; do put 644 "$header" "include/$(basename "$header")"; done
   put 644 "$made/libptab.a" lib/libptab.a
-  put 644 "$made/libptab.so.1" lib/libptab.so.1
-  ln -sf libptab.so.1 "${DESTDIR:-}$prefix/lib/libptab.so"
+  put 644 "$made/libptab.so.2" lib/libptab.so.2
+  ln -sf libptab.so.2 "${DESTDIR:-}$prefix/lib/libptab.so"
   echo "installed ${DESTDIR:-}$prefix/lib/libptab.so"
   put 644 "$made/ptab.pc" lib/pkgconfig/ptab.pc
   for module in "$here"/bindings/python/*.py; do put 644 "$module" "lib/python3/dist-packages/$(basename "$module")"; done

@@ -35,6 +35,8 @@ LARGE_BY_ONE = 1.05
 # The sectors that decide the answer: sector 0, a header and its array, and for all but show the other side too.
 SECTORS = {"show": 34, "verify": 67, "rename": 67}
 SYNCS = 5
+# What a rename with the primary copy kept may cost, by what it costs without; it has as many syncs.
+KEPT, KEPT_BY_TABLE = "ptab -k", 1.03
 
 
 def gpt_by_sgdisk(ptab, path, size, places):
@@ -87,6 +89,7 @@ def jobs(ptab, image, title):
     }
     renames = {
         "ptab": [ptab, "edit", image, "c:1:renamed"],
+        KEPT: [ptab, "edit", "--keep-primary", image, "c:1:renamed"],
         "sgdisk": ["sgdisk", "-c", "1:renamed", image],
         "sfdisk": ["sfdisk", "-q", "--part-label", image, "1", "renamed"],
         "parted": ["parted", "-s", image, "name", "1", "renamed"],
@@ -136,7 +139,11 @@ def faults(found):
         if many[(title, job, "ptab")] > most * 1e6:
             yield f"{title}: {job} takes {many[(title, job, 'ptab')] / 1e6:.3f} million instructions, more than {most}"
     for (title, job, tool), cost in found.items():
-        if tool != "ptab":
+        if tool == KEPT:
+            other = found[(title, job, "ptab")]
+            if cost["instructions"] > KEPT_BY_TABLE * other["instructions"] or cost["syncs"] != other["syncs"]:
+                yield f"{title}: {job} with the primary kept costs more than {KEPT_BY_TABLE} of the other, or syncs otherwise"
+        if tool not in ("ptab", KEPT):
             continue
         most = 1 + LOGICALS if title == CHAIN else SECTORS.get(job)
         if most and cost["sectors"] > most:

@@ -40,15 +40,18 @@ function __ptab_images
     printf '%s\n' $images
 end
 
-set -l commands show verify locate edit plan check apply repair adopt
+# those that work on an image
+set -l commands show verify locate free edit plan check apply repair adopt
 set -l writing edit apply repair adopt
 
 complete -c ptab -f
-complete -c ptab -n "__ptab_in; or __ptab_in $commands" -s h -l help -d 'Print help'
+complete -c ptab -n "__ptab_in; or __ptab_in types $commands" -s h -l help -d 'Print help'
 complete -c ptab -n __ptab_in -s V -l version -d 'Print version'
 complete -c ptab -n '__ptab_in; or __ptab_at 0 help' -a show -d 'Prints the image\'s partitions, a line each'
 complete -c ptab -n '__ptab_in; or __ptab_at 0 help' -a verify -d 'Prints `yes` where the image is healthy, else what is wrong'
 complete -c ptab -n '__ptab_in; or __ptab_at 0 help' -a locate -d 'Prints where on the disk sector K of a partition is'
+complete -c ptab -n '__ptab_in; or __ptab_at 0 help' -a free -d 'Prints where a new partition may lie: blocks of free sectors'
+complete -c ptab -n '__ptab_in; or __ptab_at 0 help' -a types -d 'Prints the partition types that have names'
 complete -c ptab -n '__ptab_in; or __ptab_at 0 help' -a edit -d 'Edits the table by words, as one change: all of them or none'
 complete -c ptab -n '__ptab_in; or __ptab_at 0 help' -a plan -d 'Prints the plan of what `edit` would write, and writes nothing'
 complete -c ptab -n '__ptab_in; or __ptab_at 0 help' -a check -d 'Answers whether a plan may be applied to the image, and writes nothing'
@@ -58,9 +61,12 @@ complete -c ptab -n '__ptab_in; or __ptab_at 0 help' -a adopt -d 'Gives the imag
 complete -c ptab -n __ptab_in -a help -d 'Print this message or the help of the given subcommand(s)'
 
 complete -c ptab -n '__ptab_in edit plan' -l fresh -x -d 'Fresh GUIDs, 32 hexadecimal digits each'
+complete -c ptab -n '__ptab_in edit plan repair' -l keep-primary -d 'Keep the primary copy of a GPT whole throughout'
 complete -c ptab -n '__ptab_in show' -l after -rF -d 'A plan, as if it were applied'
 complete -c ptab -n '__ptab_in show' -l copy -xa 'primary backup' -d 'One copy of a GPT alone: primary or backup'
+complete -c ptab -n '__ptab_in show' -l json -d 'Print the table as an object of JSON'
 complete -c ptab -n '__ptab_in adopt' -l plan -d 'Print the plan, and write nothing'
+complete -c ptab -n '__ptab_in adopt' -l by-table -d 'Zero the primary header meanwhile, as `edit` does'
 complete -c ptab -n '__ptab_in adopt' -l other-device -d 'OTHER is a block device'
 complete -c ptab -n "__ptab_in $commands" -l device -d 'IMAGE is a block device'
 complete -c ptab -n "__ptab_in $commands" -l sector-size -xa '512 4096' -d '512 (the default) or 4096; a device has its own'

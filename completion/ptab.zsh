@@ -11,6 +11,8 @@ _ptab_command() {
     "show:Prints the image's partitions, a line each"
     'verify:Prints `yes` where the image is healthy, else what is wrong'
     'locate:Prints where on the disk sector K of a partition is'
+    'free:Prints where a new partition may lie: blocks of free sectors'
+    'types:Prints the partition types that have names'
     'edit:Edits the table by words, as one change: all of them or none'
     'plan:Prints the plan of what `edit` would write, and writes nothing'
     'check:Answers whether a plan may be applied to the image, and writes nothing'
@@ -29,7 +31,7 @@ _ptab_word() {
 
 _ptab() {
   local curcontext=$curcontext state line
-  local -a on_disk writing fresh
+  local -a on_disk writing fresh keep
   on_disk=(
     '(- *)'{-h,--help}'[Print help]'
     '--device[IMAGE is a block device]'
@@ -40,21 +42,29 @@ _ptab() {
     "--no-lock[Take no lock: the caller holds the image's]"
   )
   fresh='--fresh=[Fresh GUIDs, 32 hexadecimal digits each]:hexadecimal digits:'
+  keep='--keep-primary[Keep the primary copy of a GPT whole throughout]'
   _arguments -C '(- *)'{-h,--help}'[Print help]' '(- *)'{-V,--version}'[Print version]' \
     '1:command: _ptab_command with-help' '*::argument:->behind' && return 0
   [[ $state = behind ]] || return 1
   curcontext=${curcontext%:*:*}:ptab-$words[1]:
   case $words[1] in
-    show) _arguments $on_disk '--after=[A plan, as if it were applied]:plan:_files' '--copy=[One copy of a GPT alone: primary or backup]:copy:(primary backup)' '1:image:_ptab_image' ;;
+    show)
+      _arguments $on_disk '--after=[A plan, as if it were applied]:plan:_files' \
+        '--copy=[One copy of a GPT alone: primary or backup]:copy:(primary backup)' '--json[Print the table as an object of JSON]' \
+        '1:image:_ptab_image'
+      ;;
     verify) _arguments $on_disk '1:image:_ptab_image' ;;
     locate) _arguments $on_disk '1:image:_ptab_image' '2:partition, as 3, 5 or 2.a:' '3:sector of the partition, from 0 on:' ;;
-    edit) _arguments $on_disk $writing $fresh '1:image:_ptab_image' '*:word:_ptab_word' ;;
-    plan) _arguments $on_disk $fresh '1:image:_ptab_image' '*:word:_ptab_word' ;;
+    free) _arguments $on_disk '1:image:_ptab_image' ;;
+    types) _arguments '(- *)'{-h,--help}'[Print help]' ;;
+    edit) _arguments $on_disk $writing $fresh $keep '1:image:_ptab_image' '*:word:_ptab_word' ;;
+    plan) _arguments $on_disk $fresh $keep '1:image:_ptab_image' '*:word:_ptab_word' ;;
     check) _arguments $on_disk '1:image:_ptab_image' '2:plan:_files' ;;
     apply) _arguments $on_disk $writing '1:image:_ptab_image' '2:plan:_files' ;;
-    repair) _arguments $on_disk $writing '1:image:_ptab_image' ;;
+    repair) _arguments $on_disk $writing $keep '1:image:_ptab_image' ;;
     adopt)
-      _arguments $on_disk $writing '--plan[Print the plan, and write nothing]' '--other-device[OTHER is a block device]' \
+      _arguments $on_disk $writing '--plan[Print the plan, and write nothing]' '--by-table[Zero the primary header meanwhile, as `edit` does]' \
+        '--other-device[OTHER is a block device]' \
         '1:image:_ptab_image' '2:other:_ptab_image'
       ;;
     help) _arguments '1:command:_ptab_command' ;;

@@ -28,7 +28,7 @@ extern "C" {
 #endif
 
 /* The number of this interface; ptab_version() gives that of the library. */
-#define PTAB_VERSION 1
+#define PTAB_VERSION 2
 
 /* What a call returns: the exit statuses of the command `ptab`, and three more. */
 enum {
@@ -47,8 +47,8 @@ enum {
 /* What `reply.number` counts. */
 enum {
   PTAB_ABOUT_NOTHING = 0,
-  PTAB_ABOUT_ARGUMENT = 1, /* 1 sector_size; 2 the view's lengths, or a disk of 2^64 bytes or more; 3 number or letter;
-                              4 the length of `drawn`; 5 no words, not UTF-8, or no zero byte at the end; 6 the writes
+  PTAB_ABOUT_ARGUMENT = 1, /* 1 sector_size; 2 the view's lengths, its `primary`, or a disk of 2^64 bytes or more; 3 number or
+                              letter; 4 the length of `drawn`; 5 no words, not UTF-8, or no zero byte at the end; 6 the writes
                               of a plan: their bytes don't fit their number (then `a` is 0), or write `a`, from 1, is
                               the first that is of another phase than the one before it or the next; 7 the
                               sector_size of the other view isn't the view's; 8 the other view, as 2. Of several the
@@ -67,10 +67,24 @@ enum {
   PTAB_ABOUT_OTHER_TABLE = 10 /* why the other disk has no table: numbers and arguments as of PTAB_ABOUT_TABLE */
 };
 
+/*
+ * What a plan that writes a GPT's table does with the primary header while the primary array behind it is rewritten. Where it is
+ * zeroed, a reader that looks at the primary copy alone finds nothing until it is written anew. Where the primary copy is kept,
+ * the header is the backup's with the numbers of the two headers exchanged, and leads to the backup's array: on a disk whose
+ * primary copy was whole such a reader finds the old table or the new one wherever the plan stops. Then a phase whose sectors
+ * hold what it would write is left out, too. Both plans end with the same disk. docs/c.md, "The primary copy", has more.
+ */
+enum {
+  PTAB_PRIMARY_OF_ITSELF = 0, /* as the call has it: ptab_plan and ptab_repair zero the header, ptab_adopt_plan keeps the copy */
+  PTAB_PRIMARY_KEPT = 1,      /* the copy is kept */
+  PTAB_PRIMARY_BY_TABLE = 2   /* the header is zeroed, by the specification's table */
+};
+
 /* What is known of a disk: `numbers_len` sectors, in any order, their bytes one after the other. Of a number that
    stands twice the first counts. */
 typedef struct ptab_view {
   uint32_t sector_size; /* 512 or 4096 */
+  uint32_t primary;     /* PTAB_PRIMARY_OF_ITSELF, PTAB_PRIMARY_KEPT or PTAB_PRIMARY_BY_TABLE: plans go by it */
   uint64_t sectors;     /* how many the whole disk has */
   const uint64_t *numbers;
   size_t numbers_len;
@@ -177,8 +191,9 @@ int32_t ptab_repair(const ptab_view *view, ptab_write *writes, size_t writes_len
 /*
  * The plan that makes the disk healthy with the layout that another disk denotes, to be carried out in the same way. It
  * may want a sector of either disk: PTAB_WANT of the disk, PTAB_WANT_OTHER of the other one, whose table is read first.
- * The other disk is only read. Both have the same sector size and the same number of sectors. A layout is taken, and
- * nothing else: no boot code, no disk signature of an MBR, no sector of a partition.
+ * The other disk is only read; the plan goes by `primary` of the first view. Both have the same sector size and the same
+ * number of sectors. A layout is taken, and nothing else: no boot code, no disk signature of an MBR, no sector of a
+ * partition.
  */
 int32_t ptab_adopt_plan(const ptab_view *view, const ptab_view *other, ptab_write *writes, size_t writes_len,
                         uint8_t *bytes, size_t bytes_len, ptab_reply *reply);

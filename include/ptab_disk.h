@@ -42,12 +42,16 @@ extern "C" {
 typedef struct ptab_disk ptab_disk;
 
 /* How a disk is opened: a sum of these. Without PTAB_DISK_DEVICE it is a plain file, with it a block device; all else is
-   refused. A device that is to be written is claimed as the kernel claims it for a mount, so one that is in use is refused. */
+   refused. A device that is to be written is claimed as the kernel claims it for a mount, so one that is in use is refused.
+   The last two say what becomes of a GPT's primary copy in the plans of the disk, those that are carried out too (ptab.h). They
+   aren't given together. Without them an edit and a repair zero its header meanwhile, and an adoption keeps it. */
 enum {
   PTAB_DISK_READ = 0,
-  PTAB_DISK_WRITE = 1,    /* for writing, under the exclusive lock of flock(2) until it is closed */
-  PTAB_DISK_UNLOCKED = 2, /* takes no lock, since the caller holds it */
-  PTAB_DISK_DEVICE = 4    /* a block device */
+  PTAB_DISK_WRITE = 1,        /* for writing, under the exclusive lock of flock(2) until it is closed */
+  PTAB_DISK_UNLOCKED = 2,     /* takes no lock, since the caller holds it */
+  PTAB_DISK_DEVICE = 4,       /* a block device */
+  PTAB_DISK_KEEP_PRIMARY = 8, /* it is kept: PTAB_PRIMARY_KEPT */
+  PTAB_DISK_BY_TABLE = 16     /* its header is zeroed: PTAB_PRIMARY_BY_TABLE */
 };
 
 /* More of what `reply.number` counts. */
@@ -130,7 +134,8 @@ int32_t ptab_disk_edit(ptab_disk *disk, const char *const *words, size_t words_l
 /* A repair. */
 int32_t ptab_disk_repair(ptab_disk *disk, ptab_reply *reply);
 
-/* Gives the disk the layout that another one denotes, which is only read. Both may be the same. */
+/* Gives the disk the layout that another one denotes, which is only read. Both may be the same. Of the primary copy only the
+   opening of the disk says something, and not that of the other one. */
 int32_t ptab_disk_adopt(ptab_disk *disk, ptab_disk *other, ptab_reply *reply);
 
 /* Carries out a plan from elsewhere, if ptab_check says yes to it; PTAB_NO and the first reason else. */

@@ -52,7 +52,7 @@ PTAB=$ptab DESTDIR=$tree "$here/install.sh" /usr >"$folder/installed"
 mv "$tree/usr/share/zsh/site-functions" "$tree/usr/share/zsh/vendor-completions"
 gzip -9n "$tree/usr/share/man/man8/ptab.8" "$tree/usr/share/man/man8/ptab-run.8"
 install -d -m 755 "$tree/DEBIAN" "$doc"
-"$here/packaging/put_docs.sh" "$doc" docs/commands.md docs/other_tools.md docs/sgdisk.md examples/recipes
+"$here/packaging/put_docs.sh" "$doc" docs/commands.md docs/other_tools.md docs/readers.md docs/sgdisk.md examples/recipes
 
 cat >"$doc/BUILD" <<END
 program: /usr/bin/ptab

@@ -13,7 +13,10 @@ need xorriso xorriso
 need strace strace
 need gcc gcc
 need c++ g++
+need grub-fstest grub-common
+need kpartx kpartx
 need valgrind valgrind
+need jq jq
 need zsh zsh
 need fish fish
 [ -e /usr/include/stdlib.h ] || missing+=(libc6-dev)

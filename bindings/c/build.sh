@@ -1,6 +1,6 @@
 #!/usr/bin/env bash
 # Makes of the proved archive what a C program links: OUT/libptab.a (the archive, its memory, and the calls of ptab_disk.h) and
-# OUT/libptab.so.1 with its link.
+# OUT/libptab.so.2 with its link.
 #
 # usage: bindings/c/build.sh ARCHIVE OUT     ARCHIVE is crates/pt_c/out/libpt_c.a, by packaging/build.py pt_c
 #   MEMORY=FILE.c   the three functions of memory; else bindings/c/memory.c, over malloc
@@ -25,7 +25,7 @@ cp "$archive" "$folder/libptab.a"
 chmod u+w "$folder/libptab.a"
 (cd "$folder" && ar rDs libptab.a ptab_memory.o $(printf '%s.o ' $sources)) 2>"$folder/said"
 {
-  echo 'PTAB_1 {'
+  echo 'PTAB_2 {'
   echo '  global: ptab_wanted; ptab_members; ptab_verify; ptab_locate; ptab_plan; ptab_repair; ptab_adopt_plan; ptab_check;'
   echo '  ptab_guid_text; ptab_type_code; ptab_version;'
   echo '  ptab_disk_open; ptab_disk_take; ptab_disk_close; ptab_disk_size; ptab_disk_members; ptab_disk_verify; ptab_disk_locate;'
@@ -35,8 +35,8 @@ chmod u+w "$folder/libptab.a"
   echo '  local: *;'
   echo '};'
 } >"$folder/exports"
-${CC:-cc} -shared -Wl,-soname,libptab.so.1 -Wl,-z,defs -Wl,--version-script="$folder/exports" -Wl,--whole-archive "$folder/libptab.a" \
-  -Wl,--no-whole-archive -o "$folder/libptab.so.1"
+${CC:-cc} -shared -Wl,-soname,libptab.so.2 -Wl,-z,defs -Wl,--version-script="$folder/exports" -Wl,--whole-archive "$folder/libptab.a" \
+  -Wl,--no-whole-archive -o "$folder/libptab.so.2"
 install -m 644 "$folder/libptab.a" "$out/libptab.a"
-install -m 644 "$folder/libptab.so.1" "$out/libptab.so.1"
-ln -sf libptab.so.1 "$out/libptab.so"
+install -m 644 "$folder/libptab.so.2" "$out/libptab.so.2"
+ln -sf libptab.so.2 "$out/libptab.so"

@@ -133,8 +133,15 @@ static int32_t of_other(int32_t status, ptab_reply *reply) {
   return status;
 }
 
+/* What becomes of the primary copy in the plans of a disk that was opened so. */
+static uint32_t primary_of(uint32_t how) {
+  if (how & PTAB_DISK_KEEP_PRIMARY) return PTAB_PRIMARY_KEPT;
+  return how & PTAB_DISK_BY_TABLE ? PTAB_PRIMARY_BY_TABLE : PTAB_PRIMARY_OF_ITSELF;
+}
+
 /* Asks until there is an answer. */
 static int32_t ask(struct asked *it, ptab_disk *disk, int writes, ptab_reply *reply) {
+  it->known.view.primary = primary_of(disk->how);
   int32_t status = it->other.disk ? of_other(begin(&it->other, it->other.disk, 0, reply), reply) : PTAB_DONE;
   if (status == PTAB_DONE) status = begin(&it->known, disk, writes, reply);
   if (status == PTAB_DONE && it->owns_room) status = plan_room(it, PTAB_MOST_WRITES, disk->sector_size, reply);

@@ -27,10 +27,16 @@ static int32_t judge_kind(const struct stat *st, uint32_t how, ptab_reply *reply
   return kind == wanted ? PTAB_DONE : said(reply, PTAB_DEVICE, PTAB_DISK_KIND, kind);
 }
 
+/* Whether this is a way to open a disk: what becomes of the primary copy is said once at most. */
+static int is_way(uint32_t how) {
+  uint32_t primary = PTAB_DISK_KEEP_PRIMARY | PTAB_DISK_BY_TABLE;
+  uint32_t all = PTAB_DISK_WRITE | PTAB_DISK_UNLOCKED | PTAB_DISK_DEVICE | primary;
+  return !(how & ~all) && (how & primary) != primary;
+}
+
 static int32_t judge_arguments(uint32_t how, uint32_t sector_size, ptab_reply *reply) {
   memset(reply, 0, sizeof *reply);
-  if (how & ~(uint32_t)(PTAB_DISK_WRITE | PTAB_DISK_UNLOCKED | PTAB_DISK_DEVICE))
-    return said(reply, PTAB_USAGE, PTAB_DISK_HOW, 0);
+  if (!is_way(how)) return said(reply, PTAB_USAGE, PTAB_DISK_HOW, 0);
   if (sector_size == 0 || sector_size == 512 || sector_size == 4096) return PTAB_DONE;
   reply->about = PTAB_ABOUT_ARGUMENT;
   reply->number = 1;

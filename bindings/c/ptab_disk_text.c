@@ -124,13 +124,14 @@ static const char *const adoptions[] = {
 static const char *const arguments[] = {
     NULL,
     "the sector size is neither 512 nor 4096",
-    "the view's bytes aren't a whole sector for each of its numbers, or the disk has 2^64 bytes or more",
+    "the view's bytes aren't a whole sector for each of its numbers, its primary is more than 2, or the disk has 2^64 bytes or more",
     "the number is 0, or the letter is neither 0 nor from a to h",
     "the random bytes aren't whole groups of 16",
     "there are no words, or they aren't UTF-8",
     "the plan's bytes aren't a whole sector for each write, or the phase of write {a} isn't in order",
     "the other disk has sectors of another size",
-    "the other view's bytes aren't a whole sector for each of its numbers, or its disk has 2^64 bytes or more",
+    "the other view's bytes aren't a whole sector for each of its numbers, its primary is more than 2, or its disk has 2^64 bytes "
+    "or more",
 };
 
 static const char *const disks[] = {

@@ -20,8 +20,8 @@ __all__ = ["BadArgument", "DeviceFault", "Disk", "Error", "Locked", "NoMemory", 
            "Verdict", "Write", "load"]
 
 DONE, NO, USAGE, REFUSED, NO_TABLE, DEVICE, MEMORY, ROOM = 0, 1, 2, 3, 4, 5, 6, -2
-VERSION, MOST_MEMBERS, MOST_WRITES, GPT = 1, 1056, 264, 2
-WRITE, UNLOCKED, IS_DEVICE = 1, 2, 4
+VERSION, MOST_MEMBERS, MOST_WRITES, GPT = 2, 1056, 264, 2
+WRITE, UNLOCKED, IS_DEVICE, KEEP_PRIMARY, BY_TABLE = 1, 2, 4, 8, 16
 ABOUT_DISK, LOCKED = 64, 7
 ABOUT_ARGUMENT, ARGUMENT_SIZE, ARGUMENT_PARTITION, ARGUMENT_PLAN = 1, 1, 3, 6
 
@@ -175,7 +175,7 @@ _library: Optional[c.CDLL] = None
 def _installed() -> Optional[str]:
     """The shared object of the prefix that this module was installed under, in PREFIX/lib/python3/dist-packages, or none."""
     folders = Path(__file__).resolve().parents
-    near = folders[2] / "libptab.so.1" if len(folders) > 2 else None
+    near = folders[2] / "libptab.so.2" if len(folders) > 2 else None
     return str(near) if near is not None and near.exists() else None
 
 
@@ -185,7 +185,7 @@ def load(path: Optional[str] = None) -> c.CDLL:
     global _library
     if _library is not None and path is None:
         return _library
-    library = c.CDLL(path or os.environ.get("PTAB_LIBRARY") or _installed() or "libptab.so.1", use_errno=True)
+    library = c.CDLL(path or os.environ.get("PTAB_LIBRARY") or _installed() or "libptab.so.2", use_errno=True)
     for name, arguments in _CALLS.items():
         function = getattr(library, name)
         function.argtypes, function.restype = arguments, c.c_int32
@@ -214,15 +214,18 @@ class Disk:
     """An open image, or block device with `device`. With `write` it is locked until it is closed, but with `lock=False`, for who holds the
     lock. `path` may be a descriptor, which stays open. A device has a sector size of its own; an image has 512 where none is told.
 
+    With `keep_primary` its plans keep the primary copy of a GPT: who reads that copy alone finds the old table or the new one wherever one
+    stops. With `keep_primary=False` they zero its header meanwhile. Where it isn't told, `edit` and `repair` zero it, and `adopt` keeps it.
+
     Threads take turns with a disk: its calls, `close` among them, come one after the other. A forked process may close it, which leaves
     the lock to the process that opened it; all else is a BadArgument there."""
 
     def __init__(self, path: Union[str, os.PathLike, int], *, write: bool = False, lock: bool = True, device: bool = False,
-                 sector_size: int = 0) -> None:
+                 sector_size: int = 0, keep_primary: Optional[bool] = None) -> None:
         self._disk: Optional[c.c_void_p] = None
         self._path = path
         self._library = load()
-        how = (WRITE if write else 0) | (0 if lock else UNLOCKED) | (IS_DEVICE if device else 0)
+        how = (WRITE if write else 0) | (0 if lock else UNLOCKED) | (IS_DEVICE if device else 0) | _primary(keep_primary)
         disk, reply = c.c_void_p(), _Reply()
         sector_size = _within("sector_size", sector_size, 32, ARGUMENT_SIZE)
         if isinstance(path, int):
@@ -352,6 +355,11 @@ class Disk:
         for k in range(reply.count):
             phases[writes[k].phase - 1].append(Write(writes[k].sector, data.raw[k * size:(k + 1) * size]))
         return phases
+
+
+def _primary(keep: Optional[bool]) -> int:
+    """What becomes of the primary copy, as a part of how a disk is opened."""
+    return 0 if keep is None else KEEP_PRIMARY if keep else BY_TABLE
 
 
 def _bytes(data: bytes) -> bytes:

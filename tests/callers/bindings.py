@@ -1,8 +1,8 @@
 #!/usr/bin/env python3
 """The module for Python and the crate for Rust, where they aren't what disk_library.py has compared with the command: Python's
-exceptions, texts and type hints, what its arguments may be, and where it finds the library; in Rust, where there is a cargo, its tests
-without a warning, with the library in a folder and with the one that pkg-config finds, and its examples; these beside the command on
-drawn images, and a write that fails, with a mending after it.
+exceptions, texts and type hints, what its arguments may be, that it keeps the primary copy, and where it finds the library; in Rust, where
+there is a cargo, its tests without a warning, with the library in a folder and with the one that pkg-config finds, and its examples; these
+beside the command on drawn images, and a write that fails, with a mending after it.
 
 usage: tests/callers/bindings.py PTAB ARCHIVE     ARCHIVE is crates/pt_c/out/libpt_c.a
 """
@@ -132,14 +132,14 @@ print(module["load"]()._name)
     source, near = f"{ROOT}/bindings/python/ptab.py", f"{folder}/near/lib"
     env = {name: value for name, value in os.environ.items() if name != "PTAB_LIBRARY"}
     for name in ("/ptab.py", "/x/ptab.py", "/x/y/ptab.py", "/a/b/c/d/ptab.py"):
-        same(name, must(sys.executable, "-c", code, name, source, env={**env, "LD_LIBRARY_PATH": folder}), "libptab.so.1\n")
+        same(name, must(sys.executable, "-c", code, name, source, env={**env, "LD_LIBRARY_PATH": folder}), "libptab.so.2\n")
     installed = f"{near}/python3/dist-packages"
     os.makedirs(installed)
     shutil.copy(source, installed)
-    shutil.copy(f"{folder}/libptab.so.1", near)
+    shutil.copy(f"{folder}/libptab.so.2", near)
     line = [sys.executable, "-B", "-c", "import ptab; print(ptab.load()._name)"]
     named = f"{folder}/libptab.so"
-    for more, wanted in (({}, f"{near}/libptab.so.1"), ({"LD_LIBRARY_PATH": folder}, f"{near}/libptab.so.1"),
+    for more, wanted in (({}, f"{near}/libptab.so.2"), ({"LD_LIBRARY_PATH": folder}, f"{near}/libptab.so.2"),
                          ({"PTAB_LIBRARY": named}, named)):
         same(f"installed, and {more}", must(*line, env={**env, "PYTHONPATH": installed, **more}), f"{wanted}\n")
 
@@ -163,6 +163,20 @@ def rows(folder):
         same("an MBR", disk.table(), ("mbr", 200, 0, 0, None, ((1, "", 120, 149, "83", "", None, 0, 0x80),)))
 
 
+def primary_copy(folder):
+    """A lost backup is mended beside the primary copy where that is kept, by a path and by a descriptor. Else both copies are written."""
+    path, whole = f"{folder}/primary", bytes(SMALL.gpt(4096, {1: entry(2048, 4062, name="root")}))
+    lost, backup, primary = whole[:-512] + bytes(512), {*range(4063, 4096)}, {*range(1, 34)}
+    for keep, wanted, count in ((None, backup | primary, 67), (True, backup, 33), (False, backup | primary, 67)):
+        for of in (str, lambda path: os.open(path, os.O_RDWR)):
+            where = of(put(path, lost))
+            with lib.Disk(where, write=True, keep_primary=keep) as disk:
+                found = {it.sector for phase in disk.repair_plan() for it in phase}
+                same(f"a lost backup, {keep}", (found, disk.repair(), content(path) == whole), (wanted, count, True))
+            if isinstance(where, int):
+                os.close(where)
+
+
 def hints():
     """Every public function has type hints that can be read."""
     for name, it in inspect.getmembers(lib.Disk, inspect.isfunction):
@@ -179,7 +193,7 @@ def in_rust(ptab, archive, folder):
     shutil.copytree(f"{ROOT}/bindings/rust", crate, ignore=shutil.ignore_patterns("target", "Cargo.lock"))
     where = {**os.environ, "CARGO_TARGET_DIR": f"{folder}/target", "RUSTFLAGS": "-D warnings", "CARGO_TERM_COLOR": "never"}
     said = must("cargo", "test", "--offline", "--quiet", cwd=crate, env={**where, "PTAB_LIB_DIR": folder})
-    same("the tests in Rust", "7 passed; 0 failed" in said, True)
+    same("the tests in Rust", "9 passed; 0 failed" in said, True)
     must(f"{ROOT}/install.sh", prefix, env={**os.environ, "PTAB": ptab, "LIBRARY": archive, "DESTDIR": ""})
     if not shutil.which("pkg-config"):
         return "Rust too, without pkg-config"
@@ -187,6 +201,9 @@ def in_rust(ptab, archive, folder):
     put(f"{folder}/disk.img", SMALL.gpt(4096, {1: entry(2048, 4062, name="root")}))
     example = ("cargo", "run", "--offline", "--quiet", "--manifest-path", f"{crate}/Cargo.toml", "--example")
     same("rename.rs", must(*example, "rename", cwd=folder, env=where), "1 root\ndone\n")
+    put(f"{folder}/disk.img", SMALL.gpt(4096, {1: entry(2048, 4062, name="root")})[:-512] + bytes(512))
+    same("keep_primary.rs", must(*example, "keep_primary", cwd=folder, env=where), "33 sectors mended\n67 sectors written\n")
+    put(f"{folder}/disk.img", SMALL.gpt(4096, {1: entry(2048, 4062, name="archive")}))
     same("show.rs", must(*example, "show", "--", "disk.img", "512", "t:1:8200", cwd=folder, env=where), "1 2048 4062 8200 archive\n")
     done = subprocess.run([*example, "show", "--", "disk.img", "512", "d:9"], cwd=folder, env=where, capture_output=True, text=True)
     same("a refusal", (done.stdout, done.stderr.splitlines()[-1], done.returncode), ("", "no such partition", 1))
@@ -238,11 +255,12 @@ def main():
     ptab, archive = os.path.abspath(sys.argv[1]), os.path.abspath(sys.argv[2])
     with room() as folder:
         must(f"{ROOT}/bindings/c/build.sh", archive, folder)
-        lib.load(f"{folder}/libptab.so.1")
+        lib.load(f"{folder}/libptab.so.2")
         exceptions(folder)
         ranges(folder)
         places(folder)
         rows(folder)
+        primary_copy(folder)
         hints()
         rust = in_rust(ptab, archive, folder)
     print(f"bindings: {compared.count} passed, 0 failed ({rust})")

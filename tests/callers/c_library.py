@@ -1,8 +1,9 @@
 #!/usr/bin/env python3
 """The C library beside the command: the header compiled as C and as C++, with all warnings; on images changed at random, of every kind and
 both sector sizes, one answer, one status and one image after an edit or a repair, each plan taken by the command's `check`'s twin, and no
-sector asked for twice; each request for memory refused in turn; the whole reply of each status (c_replies.py); valgrind silent where it is
-installed; the C example cut in each phase of its writes.
+sector asked for twice; plans by what becomes of the primary copy, byte by byte (kept_plans.py), which is whole at each stop where it is
+kept; each request for memory refused in turn; the whole reply of each status (c_replies.py); valgrind silent where it is installed; the C
+example cut in each phase of its writes.
 
 usage: tests/callers/c_library.py PTAB ARCHIVE [COUNT]     ARCHIVE is crates/pt_c/out/libpt_c.a
 """
@@ -20,8 +21,11 @@ ROOT = os.path.dirname(os.path.dirname(HERE))
 sys.path.insert(0, os.path.join(ROOT, "tests", "shared"))
 import c_replies
 import images
+import kept_plans
+import plans
 import replay as lib
 from images import LARGE, SMALL, room
+from reader import followed
 from writes import SYNCS, choices, written
 
 
@@ -37,6 +41,13 @@ def of_test(name):
 HOSTILE = of_test("hostile")
 CALLS = ("openat", "pwrite64", *SYNCS)
 WARNINGS = ("-Wall", "-Wextra", "-pedantic", "-Werror", "-O2")
+# the interface's number, and a view, which has the size that it had before it had a `primary`
+HEADER = """#include "ptab.h"
+int main(void) {
+  int is_view = offsetof(ptab_view, primary) == 4 && offsetof(ptab_view, sectors) == 8 && sizeof(ptab_view) == 16 + 4 * sizeof(size_t);
+  return is_view && ptab_version() == PTAB_VERSION ? 0 : 1;
+}
+"""
 WORDS = (["a:2048"], ["c:1:name"], ["d:1"], ["n:0:0:0"], ["o"], ["o", "n:0:0:+8", "c:1:root"], ["g"], ["t:1:8300"], ["e"],
          ["A:1:2:1"], ["d:1", "n:0:0:+5:8200"], ["d:2.a"], ["n:5:0:0"], ["x"], ["c:1:"], ["a:8", "n:2:0:+9"], ["t:1:83"],
          ["u:1:e896e426-a4e9-4c9e-8d92-b56974f85fcf"], ["U:e896e426-a4e9-4c9e-8d92-b56974f85fcf"], ["n:2.b:0:+3"],
@@ -61,13 +72,13 @@ def built(archive, folder):
     for compiler, standard, name in (("cc", "-std=c99", "h.c"), ("cc", "-std=c11", "h.c"), ("c++", "-std=c++11", "h.cpp"),
                                      ("c++", "-std=c++20", "h.cpp")):
         with open(f"{folder}/{name}", "w") as file:
-            file.write('#include "ptab.h"\nint main(void) { return ptab_version() == PTAB_VERSION ? 0 : 1; }\n')
+            file.write(HEADER)
         must(compiler, standard, *WARNINGS, include, f"{folder}/{name}", f"{folder}/libptab.a", "-o", f"{folder}/h")
         must(f"{folder}/h")
     must("cc", "-std=c11", *WARNINGS, include, f"{ROOT}/examples/c/ptab.c", f"{folder}/libptab.a", "-o", f"{folder}/ptab_c")
     must("cc", "-std=c11", *WARNINGS, "-fPIC", "-shared", "-Wl,-z,defs", f"{HERE}/c_library_memory.c", "-Wl,--whole-archive", archive,
          "-Wl,--no-whole-archive", "-o", f"{folder}/refusing.so")
-    return f"{folder}/libptab.so.1", f"{folder}/refusing.so", f"{folder}/ptab_c"
+    return f"{folder}/libptab.so.2", f"{folder}/refusing.so", f"{folder}/ptab_c"
 
 
 # the library's answers, as the command prints them
@@ -150,7 +161,7 @@ class Beside:
     """One image after the other, by the library and by the command."""
 
     def __init__(self, it, runner):
-        self.it, self.runner = it, runner
+        self.it, self.runner, self.stops = it, runner, 0
         self.turns, self.adopted = collections.defaultdict(collections.Counter), collections.Counter()
 
     def image(self, sectors, image):
@@ -159,7 +170,7 @@ class Beside:
         with open(self.runner.path, "wb") as file:
             file.write(image)
 
-    def disk_of(self, image):
+    def disk_of(self, image, primary=lib.OF_ITSELF):
         """An image as a disk: no sector is asked for twice."""
         count, asked = len(image) // self.size, set()
 
@@ -168,10 +179,10 @@ class Beside:
                 fail("asked for sector", k, "of", count)
             asked.add(k)
             return image[k * self.size:(k + 1) * self.size]
-        return lib.Disk(self.it, read, count, self.size)
+        return lib.Disk(self.it, read, count, self.size, primary)
 
-    def disk(self):
-        self.last = self.disk_of(self.bytes)
+    def disk(self, primary=lib.OF_ITSELF):
+        self.last = self.disk_of(self.bytes, primary)
         return self.last
 
     def same(self, what, mine, theirs):
@@ -191,7 +202,9 @@ class Beside:
     def reads(self, rng):
         it = shown(self.it, self.disk())
         self.same("show", it, self.run("show"))
-        self.same("verify", verified(self.disk()), self.run("verify"))
+        finding = verified(self.disk())
+        self.same("verify", finding, self.run("verify"))
+        self.has_primary = it[1].startswith("gpt ") and not finding[1].startswith("no 2 ")
         where, k, _ = HOSTILE["place"](it, self.sectors, rng)
         name = where.split(".")
         try:
@@ -241,6 +254,35 @@ class Beside:
         self.same("adopt", mine, (*self.run("adopt", path), self.after()))
         self.taken(phases, rng)
         self.adopted[mine[2] or ("done" if phases else "nothing to do")] += 1
+        self.image(self.sectors, self.bytes)
+        self.by_choice(rng, other, path)
+
+    def planned(self, rng, what, primary, plan, words, theirs):
+        """A plan by what becomes of the primary copy is the command's; where the copy is kept, it is whole at each stop."""
+        disk = self.disk(primary)
+        (status, _, errors, _), phases = changed(lambda: plan(disk), self.bytes, self.size, words)
+        self.same(f"{what} by {primary}", (status, plans.text_of(phases or []), errors), theirs)
+        if primary == lib.KEPT and phases and self.has_primary:
+            self.stops += kept_plans.stops(rng, self.sectors, self.bytes, phases)
+
+    def by_choice(self, rng, other, path):
+        """Plans, and repairs, by what becomes of the primary copy."""
+        words, drawn = rng.choice(WORDS), rng.randbytes(16 * rng.choice((3, 200)))
+        line = ["--fresh", drawn.hex(), *words]
+        by_table, kept = self.run("plan", *line), self.run("plan", "--keep-primary", *line)
+        for primary, theirs in ((lib.OF_ITSELF, by_table), (lib.KEPT, kept), (lib.BY_TABLE, by_table)):
+            self.planned(rng, "plan", primary, lambda disk: disk.plan(words, drawn), words, theirs)
+        kept, by_table = self.run("adopt", "--plan", path), self.run("adopt", "--plan", "--by-table", path)
+        for primary, theirs in ((lib.OF_ITSELF, kept), (lib.KEPT, kept), (lib.BY_TABLE, by_table)):
+            self.planned(rng, "adopt", primary, lambda disk: disk.adopt(self.disk_of(other)), [], theirs)
+        for primary, option in ((lib.KEPT, ["--keep-primary"]), (lib.BY_TABLE, [])):
+            disk = self.disk(primary)
+            mine, phases = changed(disk.repair, self.bytes, self.size, [])
+            self.same(f"repair by {primary}", mine, (*self.run("repair", *option), self.after()))
+            self.taken(phases, rng)
+            self.image(self.sectors, self.bytes)
+            if primary == lib.KEPT and phases and self.has_primary:
+                self.stops += kept_plans.stops(rng, self.sectors, self.bytes, phases)
 
 
 def others(rng, runs, before):
@@ -264,10 +306,28 @@ def beside(it, ptab, folder, count):
         before[sectors.size] = image
     for what, turns in runs.turns.items():
         print(what, "by calls:", dict(sorted(turns.items())), file=sys.stderr)
-    print("adopted:", dict(runs.adopted.most_common()), file=sys.stderr)
+    print("adopted:", dict(runs.adopted.most_common()), "stops with the primary copy kept:", runs.stops, file=sys.stderr)
     if not all(runs.adopted[it] for it in ("done", "refused: other size\n", "other: no table: copies 1 1\n")):
         fail("no image was adopted, or none was refused:", dict(runs.adopted))
-    return 6 * count
+    if runs.stops == 0:
+        fail("no plan that keeps the primary copy was stopped")
+    return 14 * count + runs.stops
+
+
+def by_choice(it, ptab, folder):
+    """The plans of kept_plans.py, by each choice: the library's and the command's."""
+    rng, runs = random.Random(1), 0
+    for job in kept_plans.jobs():
+        for keep, primary in kept_plans.CHOICES.items():
+            wanted = plans.text_of(job.phases(keep))
+            mine = kept_plans.by_calls(it, job, primary)
+            for who, found in (("the library", mine), ("the command", kept_plans.by_command(ptab, folder, job, keep))):
+                if plans.text_of(found) != wanted:
+                    fail(f"{job.name}, by {primary}: {who} {plans.spelled(plans.sectors_of(found))}, or other bytes")
+                runs += 1
+            if primary == lib.KEPT and followed(job.image, job.sectors):
+                runs += kept_plans.stops(rng, job.sectors, job.image, mine)
+    return runs
 
 
 def disks():
@@ -301,9 +361,11 @@ def without_memory(library):
                     return failed.status
 
             phases = [[(0, bytes(size))]]
-            other = lib.Disk(it, lambda k: image[k * size:(k + 1) * size], len(image) // size, size)
+            other, kept = (lib.Disk(it, lambda k, of=of: of[k * size:(k + 1) * size], len(of) // size, size, primary)
+                           for of, primary in ((image, lib.OF_ITSELF), (content, lib.KEPT)))
             for call in (disk.members, disk.verify, lambda: disk.locate(1, "", 0), lambda: disk.plan(words, bytes(range(16)) * 4),
-                         disk.repair, lambda: disk.adopt(other), lambda: disk.check(phases)):
+                         disk.repair, lambda: disk.adopt(other), lambda: disk.check(phases), lambda: kept.plan(words, bytes(range(16)) * 4),
+                         kept.repair):
                 it.lib.test_refuse(0, 0)
                 wanted = answer(call)
                 count = it.lib.test_requests()
@@ -446,6 +508,7 @@ def main():
         shared, refusing, example = built(archive, folder)
         it = lib.Ptab(shared)
         runs = beside(it, ptab, folder, count)
+        runs += by_choice(it, ptab, folder)
         runs += c_replies.checked(it)
         runs += without_memory(refusing)
         runs += example_beside(ptab, example, folder)

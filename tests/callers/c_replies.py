@@ -40,7 +40,8 @@ class Given:
         known = [number for number, _ in sectors]
         self.numbers = (ctypes.c_uint64 * max(1, len(known)))(*known)
         self.bytes = ctypes.create_string_buffer(b"".join(content for _, content in sectors) or b"\0")
-        self.view = lib.View(size, self.count, ctypes.addressof(self.numbers), len(known), ctypes.addressof(self.bytes), len(known) * size)
+        self.view = lib.View(size, lib.OF_ITSELF, self.count, ctypes.addressof(self.numbers), len(known), ctypes.addressof(self.bytes),
+                             len(known) * size)
 
     def but(self, **fields):
         for name, value in fields.items():
@@ -149,7 +150,7 @@ def other_side(side, entries, **fields):
 
 
 def arguments(calls):
-    """(found, expected) of arguments that have no meaning, alone and several at once."""
+    """(found, expected) of arguments that have no meaning, each alone."""
     gpt = images.one_partition()
     for size in (0, 1, 511, 513, 1024, 2 ** 32 - 1):
         for call in calls.all():
@@ -157,6 +158,10 @@ def arguments(calls):
     for wrong in ({"bytes_len": 4096 * 512 - 1}, {"bytes_len": 0}, {"numbers_len": 4095}, {"sectors": 2 ** 64 - 1}, {"sectors": 2 ** 55}):
         for call in calls.all():
             yield call(Given(gpt).but(**wrong)), misused(VIEW)
+    for primary in (3, 4, 256, 2 ** 31, 2 ** 32 - 1):
+        for call in calls.all():
+            yield call(Given(gpt).but(primary=primary)), misused(VIEW)
+        yield calls.adopt(Given(gpt), Given(gpt).but(primary=primary)), misused(OTHER_VIEW)
     for number, letter in ((0, 0), (0, "a"), (1, "i"), (1, "A"), (1, 1), (1, 255)):
         yield calls.locate(Given(gpt), number, letter), misused(PATH)
     for drawn in (b"1", DRAWN[:15], DRAWN[:17]):
@@ -169,7 +174,12 @@ def arguments(calls):
     # the first row that isn't of the phase before it or of the next one
     for phases, row in (((0,), 1), ((2,), 1), ((1, 3), 2), ((1, 0), 2), ((1, 2, 1), 3), ((1, 1, 2, 2, 4, 9), 5), ((2 ** 64 - 1,), 1)):
         yield calls.check(Given(gpt), [(40 + k, phase) for k, phase in enumerate(phases)]), misused(ROWS, a=row)
-    # several at once: the size is judged first; then the path, the random bytes, the words or the rows; then the view
+
+
+def several(calls):
+    """Of several arguments without a meaning the first is told."""
+    gpt = images.one_partition()
+    # the size is judged first; then the path, the random bytes, the words or the rows; then the view
     bad = {"numbers_len": 4095}
     worse = {"numbers_len": 4095, "sector_size": 1024}
     yield calls.locate(Given(gpt).but(**worse), 0), misused(SIZE)
@@ -181,6 +191,10 @@ def arguments(calls):
     yield calls.check(Given(gpt).but(**worse), [(0, 0)]), misused(SIZE)
     yield calls.check(Given(gpt).but(**bad), [(0, 1)], bytes(511)), misused(ROWS)
     yield calls.check(Given(gpt).but(**bad), [(0, 0)]), misused(ROWS, a=1)
+    yield calls.locate(Given(gpt).but(primary=3), 0), misused(PATH)
+    yield calls.plan(Given(gpt).but(primary=3), b"x\0"), (lib.USAGE, reply(about=WORD, number=1, a=1))
+    yield calls.check(Given(gpt).but(primary=3), [(0, 0)]), misused(ROWS, a=1)
+    yield calls.verify(Given(gpt).but(primary=3, sector_size=1024)), misused(SIZE)
     # of two disks: the size, the other's size, the view, the other view
     large = LARGE.gpt(64, {1: images.entry(6, 40)})
     for size in (0, 513, 4096):
@@ -192,6 +206,8 @@ def arguments(calls):
     yield calls.adopt(Given(gpt).but(**bad), Given(gpt).but(**bad)), misused(VIEW)
     yield calls.adopt(Given(gpt), Given(gpt).but(**bad)), misused(OTHER_VIEW)
     yield calls.adopt(Given(gpt).but(sectors=5000), Given(gpt).but(**bad)), misused(OTHER_VIEW)
+    yield calls.adopt(Given(gpt).but(sectors=5000), Given(gpt).but(primary=3)), misused(OTHER_VIEW)
+    yield calls.adopt(Given(gpt).but(primary=3), Given(gpt).but(primary=3)), misused(VIEW)
     # what is no text is told before a word of it, and a word before the missing end
     yield calls.plan(Given(gpt), b"x\0\xff\0"), misused(WORDS)
     yield calls.plan(Given(gpt), b"e\0x\0e"), (lib.USAGE, reply(about=WORD, number=1, a=2))
@@ -228,13 +244,38 @@ def done(calls):
              (label, lambda: calls.plan(label, b"d:2\0"), 1, 1, 1), (broken, lambda: calls.repair(broken), 67, 4, 0)]
     chain = Given(images.chained({4096: images.ebr()}))
     plans.append((chain, lambda: calls.plan(chain, b"g\0"), 67, 2, 2))
-    # of another disk: a GPT onto another one, onto nothing, and onto the same
+    # of another disk: a GPT onto another one, onto nothing (where the primary copy is kept, so zeros that stand aren't written), and onto
+    # the same
     other = Given(SMALL.gpt(4096, {2: images.entry(100, 300)}))
-    plans += [(gpt, lambda: calls.adopt(gpt, other), 67, 4, 2), (empty, lambda: calls.adopt(empty, other), 68, 5, 3),
+    plans += [(gpt, lambda: calls.adopt(gpt, other), 67, 4, 2), (empty, lambda: calls.adopt(empty, other), 67, 4, 2),
               (other, lambda: calls.adopt(other), 0, 0, 0)]
     for given, call, count, phases, switch in plans:
         yield call(), (lib.DONE, reply(count=count, phases=phases))
         yield calls.check_last(given), (lib.DONE, reply(a=switch))
+
+
+def by_choice(calls):
+    """By what becomes of the primary copy: writes and phases of a plan, and its switch. Other answers are the same."""
+    gpt, empty, other = (Given(it) for it in (images.one_partition(), bytes(4096 * 512), SMALL.gpt(4096, {2: images.entry(100, 300)})))
+    lost = {lba: Given(changed(images.one_partition(), lba, bytes(512))) for lba in (0, 1, 2, 4063, 4095)}
+    whole, first, backup = (67, 4, 2), (67, 4, 0), (33, 1, 0)
+    # by the table, and kept: a rename; a table where there was none, without entries and with some; then repairs
+    for given, call, by_table, kept in (
+            (gpt, calls.plan, whole, whole), (empty, lambda it: calls.plan(it, b"o\0"), (68, 5, 3), (35, 3, 1)),
+            (empty, lambda it: calls.adopt(it, other), (68, 5, 3), whole), (gpt, lambda it: calls.adopt(it, other), whole, whole),
+            (lost[0], calls.repair, (68, 5, 0), (1, 1, 0)), (lost[1], calls.repair, first, (1, 1, 0)),
+            (lost[2], calls.repair, first, (34, 3, 0)), (lost[4063], calls.repair, first, backup),
+            (lost[4095], calls.repair, first, backup), (gpt, calls.repair, (0, 0, 0), (0, 0, 0))):
+        for primary, (count, phases, switch) in ((lib.BY_TABLE, by_table), (lib.KEPT, kept)):
+            yield call(given.but(primary=primary)), (lib.DONE, reply(count=count, phases=phases))
+            yield calls.check_last(given), (lib.DONE, reply(a=switch))
+    for primary in (lib.OF_ITSELF, lib.KEPT, lib.BY_TABLE):
+        for given in (gpt, lost[1], empty):
+            for call in (calls.members, calls.verify, calls.locate, calls.check, calls.wanted):
+                yield call(given.but(primary=primary)), call(given.but(primary=lib.OF_ITSELF))
+        for k in (*range(34), *range(4063, 4096)):
+            for call in (calls.plan, calls.repair):
+                yield call(Given(images.one_partition(), without={k}).but(primary=primary)), (lib.WANT, reply(sector=k))
 
 
 def no(calls):
@@ -390,12 +431,16 @@ def room(calls):
         yield calls.repair(broken, rows, space), (lib.ROOM, reply(count=67, phases=4))
         other = Given(SMALL.gpt(4096, {2: images.entry(100, 300)}))
         yield calls.adopt(gpt, other, rows, space), (lib.ROOM, reply(count=67, phases=4))
+    kept = Given(changed(images.one_partition(), 4095, bytes(512))).but(primary=lib.KEPT)
+    for rows, space in ((32, None), (0, None), (33, 33 * 512 - 1), (0, 0)):
+        yield calls.repair(kept, rows, space), (lib.ROOM, reply(count=33, phases=1))
+    yield calls.repair(kept, 33, 33 * 512), (lib.DONE, reply(count=33, phases=1))
 
 
 def checked(it):
     """Compares them all, and says how many there were; `it` is the library."""
     calls, count = Calls(it), 0
-    for part in (arguments, unreadable, done, no, refused, wanted, listed, twice, room):
+    for part in (arguments, several, unreadable, done, by_choice, no, refused, wanted, listed, twice, room):
         for number, (found, expected) in enumerate(part(calls)):
             if found != expected:
                 raise SystemExit(f"C library: {part.__name__} {number}: {told(*found)}, wanted {told(*expected)}")

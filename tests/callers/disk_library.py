@@ -1,9 +1,10 @@
 #!/usr/bin/env python3
 """The library's calls on open disks (include/ptab_disk.h), by the program examples/c/ptab.c and by Python's module. The headers are
 compiled as C and as C++, and the small programs of docs/c.md run. On images changed at random, of every kind and both sector sizes, each
-call answers what the command answers, and leaves the image that the command leaves. Then: several edits in one opening; the lock, held
-elsewhere and held here; files of other kinds; each call on the image failing in turn, and each request for memory; a file that can't grow;
-plans, checked and applied. As root, where there are loop devices, also on those of 512 and of 4096 bytes.
+call answers what the command answers, and leaves the image that the command leaves. Then: plans by what becomes of the primary copy
+(kept_plans.py), as they are given and as they are written; several edits in one opening; the lock, held elsewhere and held here; files of
+other kinds; each call on the image failing in turn, and each request for memory; a file that can't grow; plans, checked and applied. As
+root, where there are loop devices, also on those of 512 and of 4096 bytes.
 
 usage: tests/callers/disk_library.py PTAB ARCHIVE [COUNT]     ARCHIVE is crates/pt_c/out/libpt_c.a
 """
@@ -26,6 +27,7 @@ import compared
 import disk_faults
 import disk_system
 import images
+import kept_plans
 import ptab as lib
 import replay
 from compared import content, put, same
@@ -79,22 +81,31 @@ int main(void) { ptab_disk_close(0); return ptab_version() == PTAB_VERSION ? 0 :
     for compiler in compilers[0]:
         for source in ("ptab_disk", "ptab_disk_open", "ptab_disk_io", "ptab_disk_text", "ptab_disk_list"):
             must(compiler, "-std=c11", *WARNINGS, include, "-c", f"{ROOT}/bindings/c/{source}.c", "-o", f"{folder}/{source}.o")
-    for name in ("ptab", "rename"):
+    for name in ("ptab", "rename", "keep_primary"):
         must("cc", "-std=c11", *WARNINGS, include, f"{ROOT}/examples/c/{name}.c", f"{folder}/libptab.a", "-o", f"{folder}/{name}_c")
     return f"{folder}/ptab_c"
 
 
+# what the small programs print: of two partitions; of a lost backup that is mended, and of a rename
+SMALL_PROGRAMS = {"rename": "1 EFI\n2 root\ndone\n", "keep_primary": "33 sectors mended\n67 sectors written\n"}
+
+
 def small_programs(ptab, folder):
-    """The programs that list an image's partitions and rename one, in C and in Python. They stand in docs/c.md, as the one in Rust does."""
-    image, listed = f"{folder}/disk.img", "1 EFI\n2 root\ndone\n"
-    for name in ("examples/c/rename.c", "examples/python/rename.py", "bindings/rust/examples/rename.rs"):
-        same(f"docs/c.md has {name}", content(f"{ROOT}/{name}") in content(f"{ROOT}/docs/c.md"), True)
-    for program in ([f"{folder}/rename_c"], [sys.executable, f"{ROOT}/examples/python/rename.py"]):
-        put(image, bytes(64 << 20))
-        must(ptab, "edit", image, "--fresh", DRAWN.hex(), "o", "n:1:0:+32768:EF00", "c:1:EFI", "n:2:0:0", "c:2:root")
-        where = {**os.environ, "PYTHONPATH": f"{ROOT}/bindings/python", "PTAB_LIBRARY": f"{folder}/libptab.so.1"}
-        same(program, must(*program, cwd=folder, env=where), listed)
-        same("the renamed partition", must(ptab, "show", image).splitlines()[1].split()[-1], "archive")
+    """The programs that list an image's partitions and rename one, and that mend an image and rename one, in C and in Python. They stand in
+    docs/c.md, as those in Rust do."""
+    image = f"{folder}/disk.img"
+    where = {**os.environ, "PYTHONPATH": f"{ROOT}/bindings/python", "PTAB_LIBRARY": f"{folder}/libptab.so.2"}
+    for name, wanted in SMALL_PROGRAMS.items():
+        for path in (f"examples/c/{name}.c", f"examples/python/{name}.py", f"bindings/rust/examples/{name}.rs"):
+            same(f"docs/c.md has {path}", content(f"{ROOT}/{path}") in content(f"{ROOT}/docs/c.md"), True)
+        for program in ([f"{folder}/{name}_c"], [sys.executable, f"{ROOT}/examples/python/{name}.py"]):
+            put(image, bytes(64 << 20))
+            must(ptab, "edit", image, "--fresh", DRAWN.hex(), "o", "n:1:0:+32768:EF00", "c:1:EFI", "n:2:0:0", "c:2:root")
+            if name == "keep_primary":
+                put_at(image, (64 << 20) - 512, bytes(512))
+            same(program, must(*program, cwd=folder, env=where), wanted)
+            same("the renamed partition", must(ptab, "show", image).splitlines()[1].split()[-1], "archive")
+            same("it is healthy", must(ptab, "verify", image), "yes\n")
     ends = (bytes(1 << 20), 4, f"there is no table: {NO_COPY}\n"), (None, 5, f"the disk can't be opened: {os.strerror(errno.ENOENT)}\n")
     for blank, status, told in ends:
         put(image, blank) if blank else os.remove(image)
@@ -128,7 +139,7 @@ def beside(ptab, example, folder, count):
     put(f"{folder}/drawn", DRAWN)
     mine, theirs = Example(example, path, f"{folder}/drawn"), HOSTILE["Runner"](ptab, path)
     put(other, images.one_partition())
-    for _ in range(count):
+    for number in range(count):
         sectors, image = HOSTILE["hostile"](rng)
         words = rng.choice(WORDS)
         put(path, image)
@@ -140,7 +151,7 @@ def beside(ptab, example, folder, count):
                 put(path, image)
                 answers.append((it.run(command, sectors, *more, *given), content(path)))
             same(f"{command} {given} on an image of {len(image)} bytes", answers[1], answers[0])
-        by_plan(theirs, sectors, image, words)
+        by_plan(theirs, sectors, image, words, (None, True, False)[number % 3])
         listed(theirs, sectors)
         put(other, content(path))
 
@@ -166,12 +177,12 @@ def listed(command, sectors):
     same("the rows of ptab_disk_list", texts[:-1], wanted)
 
 
-def by_plan(command, sectors, image, words):
+def by_plan(command, sectors, image, words, keep):
     """Plans by Python's module: the command's text, the command's answers to it, and what it leaves."""
-    path, text = command.path, f"{command.path}.plan"
+    path, text, option = command.path, f"{command.path}.plan", ["--keep-primary"] if keep else []
     put(path, image)
-    status, wanted, errors = command.run("plan", sectors, "--fresh", DRAWN.hex(), *words)
-    with lib.Disk(path, write=True, sector_size=sectors.size) as disk:
+    status, wanted, errors = command.run("plan", sectors, *option, "--fresh", DRAWN.hex(), *words)
+    with lib.Disk(path, write=True, sector_size=sectors.size, keep_primary=keep) as disk:
         if status != 0:
             same(f"the plan of {words}: {errors}", error_of(lambda: disk.plan(*words, drawn=DRAWN)).status, status)
             return
@@ -188,8 +199,28 @@ def by_plan(command, sectors, image, words):
         if not verdict:
             same("a part of it", (type(error_of(lambda: disk.apply(part))), content(path) == after), (lib.Refused, True))
     put(path, image)
-    same("the command's edit", command.run("edit", sectors, "--fresh", DRAWN.hex(), *words)[0], 0)
+    same("the command's edit", command.run("edit", sectors, *option, "--fresh", DRAWN.hex(), *words)[0], 0)
     same("the image", content(path) == after, True)
+
+
+def by_choice(folder):
+    """Plans by what becomes of the primary copy, on disks that are opened with each choice: as they are given, and as they are written."""
+    path, library = f"{folder}/chosen", f"{folder}/libptab.so.2"
+    for job in kept_plans.jobs():
+        for keep in kept_plans.CHOICES:
+            wanted = job.phases(keep)
+            put(path, job.image)
+            with lib.Disk(path, sector_size=job.sectors.size, keep_primary=keep) as disk:
+                if job.words:
+                    found = disk.plan(*job.words, drawn=kept_plans.DRAWN)
+                elif job.other:
+                    with lib.Disk(put(f"{path}.other", job.other), sector_size=job.sectors.size, keep_primary=not keep) as other:
+                        found = disk.adopt_plan(other)
+                else:
+                    found = disk.repair_plan()
+                same(f"{job.name}, {keep}: the plan", found, wanted)
+                same(f"{job.name}, {keep}: its check", bool(disk.check(found)), True)
+            same(f"{job.name}, {keep}: what is written", kept_plans.by_open_disk(library, folder, job, keep), wanted)
 
 
 # one opening
@@ -311,8 +342,21 @@ def small_buffers(folder):
         for rows, room_of, wanted in ((66, 67 * 512, lib.ROOM), (67, 67 * 512 - 1, lib.ROOM), (67, 67 * 512, lib.DONE)):
             status = library.ptab_disk_plan(disk._disk, *words, writes, rows, data, room_of, ctypes.byref(reply))
             same(f"room for {rows} writes in {room_of} bytes", (status, reply.count, reply.phases), (wanted, 67, 4))
-        status = library.ptab_disk_open(path.encode(), 8, 0, ctypes.byref(ctypes.c_void_p(1)), ctypes.byref(reply))
-        same("another way to open", (status, reply.about, reply.number), (lib.USAGE, 64, 12))
+    ways(path, library)
+
+
+def ways(path, library):
+    """What is no way to open a disk: another number, and both choices of what becomes of the primary copy at once."""
+    fd, reply, disk = os.open(path, os.O_RDWR), lib._Reply(), ctypes.c_void_p(1)
+    for call, it in ((library.ptab_disk_open, path.encode()), (library.ptab_disk_take, fd)):
+        for how in (24, 25, 31, 32, 40, 2 ** 31):
+            disk.value = 1
+            status = call(it, how, 0, ctypes.byref(disk), ctypes.byref(reply))
+            same(f"no way to open: {how}", (status, reply.about, reply.number, disk.value), (lib.USAGE, 64, 12, None))
+        for how in (8, 9, 11, 16, 17, 19):
+            same(f"a way to open: {how}", call(it, how, 0, ctypes.byref(disk), ctypes.byref(reply)), lib.DONE)
+            library.ptab_disk_close(disk)
+    os.close(fd)
 
 
 def drawn_guids(folder):
@@ -463,6 +507,10 @@ def on_device(ptab, example, device, path, sectors, edits, name):
         same(f"{name}: pages are read anew", str(disk.verify()) == "yes", False)
         if name.startswith("GPT"):
             same(f"{name}: a repair", (disk.repair() > 0, str(disk.verify()), content(path) == wanted), (True, "yes", True))
+    if name.startswith("GPT"):
+        put_at(path, len(wanted) - sectors.size, bytes(sectors.size))
+        with lib.Disk(device, device=True, write=True, keep_primary=True) as disk:
+            same(f"{name}: a lost backup, the primary copy kept", (disk.repair(), content(path) == wanted), (sectors.array + 1, True))
     without_rights(name, device)
     size = ["--sector-size", str(sectors.size)]
     for line in (["show"], ["verify"], ["locate", "1", "0"]):
@@ -502,9 +550,10 @@ def main():
     count = int(sys.argv[3]) if len(sys.argv) > 3 else 400
     with room() as folder:
         example = built(archive, folder)
-        lib.load(f"{folder}/libptab.so.1")
+        lib.load(f"{folder}/libptab.so.2")
         small_programs(ptab, folder)
         beside(ptab, example, folder, count)
+        by_choice(folder)
         in_one_opening(ptab, folder)
         locks(ptab, folder)
         refusals(folder)

@@ -45,7 +45,7 @@ with lib.Disk(path, write=True, **how) as disk, lib.Disk(other_path, sector_size
 
 
 def of_python(folder, path, other, size, code, device="file"):
-    return [sys.executable, "-c", PYTHON, f"{folder}/libptab.so.1", path, other, str(size), device, code]
+    return [sys.executable, "-c", PYTHON, f"{folder}/libptab.so.2", path, other, str(size), device, code]
 
 
 def traced(command, path, *options):

@@ -30,7 +30,7 @@ PLACES = {"bin/ptab": (None, 0o755), "bin/ptab-run": ("tools/ptab-run", 0o755), 
 # the headers and the modules for Python, and what is made of the archive
 SOURCES = {**{f"include/{os.path.basename(it)}": it for it in glob.glob(f"{TOP}/include/*.h")},
            **{f"lib/python3/dist-packages/{os.path.basename(it)}": it for it in glob.glob(f"{TOP}/bindings/python/*.py")}}
-LIBRARY = (*SOURCES, "lib/libptab.a", "lib/libptab.so.1", "lib/libptab.so", "lib/pkgconfig/ptab.pc")
+LIBRARY = (*SOURCES, "lib/libptab.a", "lib/libptab.so.2", "lib/libptab.so", "lib/pkgconfig/ptab.pc")
 WORDS = ["a:", "o", "n:", "d:", "t:", "c:", "u:", "U:", "A:", "e", "g"]
 IMAGES = ["folder", "a.img", "b.raw"]
 # what stands before the cursor, and what is completed
@@ -44,8 +44,10 @@ COMPLETIONS = (
     ("ptab edit --sector-size 4096 ", IMAGES), ("ptab edit --fresh ", []), ("ptab edit a.img ", WORDS),
     ("ptab edit a.img --fresh 00 u", ["u:"]), ("ptab plan --sector-size=512 a.img e", ["e"]), ("ptab edit a.img n:", []),
     ("ptab edit a.img n:1:0:0 c", ["c:"]), ("ptab check a.img n", ["notes"]), ("ptab apply a.img no", ["notes"]),
-    ("ptab check a.img notes ", []), ("ptab locate a.img 1 ", []), ("ptab nonsense ", []), ("ptab adopt a.img ", IMAGES),
-    ("ptab adopt --p", ["--plan"]),
+    ("ptab check a.img notes ", []), ("ptab locate a.img 1 ", []), ("ptab fr", ["free"]), ("ptab free ", IMAGES),
+    ("ptab free a.img ", []), ("ptab nonsense ", []), ("ptab adopt a.img ", IMAGES), ("ptab adopt --p", ["--plan"]),
+    ("ptab show --j", ["--json"]), ("ptab show --json ", IMAGES), ("ptab show --json a.img ", []), ("ptab ty", ["types"]),
+    ("ptab help ty", ["types"]), ("ptab types ", []), ("ptab types --h", ["--help"]), ("ptab types --d", []), ("ptab verify --j", []),
 )
 
 

@@ -42,7 +42,7 @@ def led_to(pages):
 
 
 # the pages and the recipes, each at its path in the repository
-PAGES = sorted(led_to(["docs/commands.md", "docs/other_tools.md", "docs/sgdisk.md"]))
+PAGES = sorted(led_to(["docs/commands.md", "docs/other_tools.md", "docs/readers.md", "docs/sgdisk.md"]))
 RECIPES = tuple(f"examples/recipes/{name}" for name in sorted(os.listdir(f"{TOP}/examples/recipes")))
 FOLDERS = ("", "usr/", "usr/bin/", "usr/share/", "usr/share/bash-completion/", "usr/share/bash-completion/completions/", "usr/share/doc/",
            "usr/share/doc/ptab/", "usr/share/doc/ptab/docs/", "usr/share/doc/ptab/examples/", "usr/share/doc/ptab/examples/recipes/",
@@ -58,7 +58,7 @@ FILES = {"usr/bin/ptab": "-rwxr-xr-x", "usr/bin/ptab-run": "-rwxr-xr-x", "usr/sh
          "usr/share/doc/ptab/BUILD": "-rw-r--r--", "usr/share/doc/ptab/changelog.gz": "-rw-r--r--",
          "usr/share/doc/ptab/copyright": "-rw-r--r--", "usr/share/man/man8/ptab.8.gz": "-rw-r--r--"}
 DEV = {"include/ptab.h": "include/ptab.h", "include/ptab_disk.h": "include/ptab_disk.h", "lib/libptab.a": None, "lib/libptab.so": None,
-       "lib/libptab.so.1": None, "lib/pkgconfig/ptab.pc": None, "lib/python3/dist-packages/ptab.py": "bindings/python/ptab.py"}
+       "lib/libptab.so.2": None, "lib/pkgconfig/ptab.pc": None, "lib/python3/dist-packages/ptab.py": "bindings/python/ptab.py"}
 FOLDERS_OF_DEV = ("bindings/", "examples/c/", "examples/python/", "examples/recipes/")
 
 

@@ -1,10 +1,11 @@
 #!/usr/bin/env python3
-"""Holds the documents against what they tell of. Each example session of README, of docs/commands.md and of docs/other_tools.md is run, a
-document's sessions in their order in one folder, and each command there answers what the document shows; docs/commands.md has one for each
-command, and says of each answer that isn't a success what to do. README's piece of a program stands in the example that it names, and
-examples/README.md lists each example. Each sentence that an error of the library prints stands in docs/commands.md. What docs/promises.md
-names is there, and so is each file and each crate that the pages on the repository name. tests/README.md has each script as its own text
-has it, and the gate runs it. No line of a source is longer than the prover takes.
+"""Holds the documents against what they tell of. Each example session of README, of docs/commands.md, of docs/other_tools.md and of
+docs/table.md is run, a document's sessions in their order in one folder, and each command there answers what the document shows;
+docs/commands.md has one for each command, and says of each answer that isn't a success what to do. README's piece of a program stands in
+the example that it names, and examples/README.md lists each example. Each sentence that an error of the library prints stands in
+docs/commands.md. What docs/promises.md names is there, and so is each file and each crate that the pages on the repository name.
+tests/README.md has each script as its own text has it, and the gate runs it or the page says that it doesn't. No line of a source is
+longer than the prover takes.
 
 usage: tests/docs/docs.py PTAB [DOCUMENT...]
 """
@@ -21,7 +22,7 @@ sys.path.insert(0, os.path.join(TOP, "tests", "shared"))
 from commands import COMMANDS
 from sentences import ERRORS, is_told, sentences
 
-DOCUMENTS = ("README.md", "docs/commands.md", "docs/other_tools.md")
+DOCUMENTS = ("README.md", "docs/commands.md", "docs/other_tools.md", "docs/table.md")
 # the pages on the repository; how they name a file and a crate; the files that they name of any crate, and names that stand for others
 NAMING = ("CONTRIBUTING.md", "tests/README.md", "docs/architecture.md", "docs/own_disk.md", "examples/README.md")
 NAMED = re.compile(r"(?<![\w/$])((?:\.\./)*[\w/*-]+\.(?:rt|antt|txt|py|sh|md|[ch]|rs|zsh|bash|fish|8)"
@@ -216,8 +217,11 @@ def places(name):
 
 
 def scripts():
-    """How many scripts tests/README.md has: each that says how it is run, in those words, and no other; the gate runs each."""
-    listed = re.findall(r"^\| `((\w+/\w+\.py)[^`]*)` \|", read("tests/README.md"), re.MULTILINE)
+    """How many scripts tests/README.md has: each that says how it is run, in those words, and no other; the gate runs each, but those of
+    which the page says that it doesn't."""
+    page = read("tests/README.md")
+    listed = re.findall(r"^\| `((\w+/\w+\.py)[^`]*)` \|", page, re.MULTILINE)
+    left_out = re.findall(r"^The gate doesn't run `(\w+/\w+\.py)`", page, re.MULTILINE)
     usages = {}
     for path in glob.glob(f"{TOP}/tests/*/*.py"):
         with open(path, encoding="utf-8") as it:
@@ -228,8 +232,8 @@ def scripts():
     for text, path in listed:
         if usages.get(path) != text:
             sys.exit(f"tests/README.md has {text}, and the script says {usages.get(path)}")
-        if not re.search(rf"^(?:then )?{path}\b", gate, re.MULTILINE):
-            sys.exit(f"test.sh doesn't run tests/{path}")
+        if (path in left_out) == bool(re.search(rf"^(?:then )?{path}\b", gate, re.MULTILINE)):
+            sys.exit(f"test.sh runs tests/{path} against tests/README.md, or doesn't run it")
     if set(usages) - {path for _, path in listed}:
         sys.exit(f"tests/README.md doesn't list {sorted(set(usages) - {path for _, path in listed})}")
     return len(listed)

@@ -183,13 +183,13 @@ def commands(ptab, page, docs):
     for line in synopsis[:-1]:
         name = line.split()[1]
         text = help_of(ptab, name, how="-h")
-        usage = re.search(rf"Usage: ptab {name} \[OPTIONS\] (.*)", text).group(1).replace("<", "").replace(">", "")
-        same(f"the arguments of {name}", re.sub(r" \[--[^]]*\]", "", line), f"ptab {name} {usage}")
+        usage = re.search(rf"Usage: ptab {name}(?: \[OPTIONS\])?(.*)", text).group(1).replace("<", "").replace(">", "")
+        same(f"the arguments of {name}", re.sub(r" \[--[^]]*\]", "", line), f"ptab {name}{usage}")
         listed = text.split("Options:\n")[1].split("\n\n")[0]
         taken = [f"{option} {value}".strip() for option, value in re.findall(r"^ +(--[\w-]+)(?: <(\w+)>)?", listed, re.MULTILINE)]
         same(f"the options of {name}", re.findall(r"\[(--[^]]*)\]", line), taken)
         options |= set(taken)
-        told = re.search(rf"`ptab ({name} [^`]*)`", docs).group(1)
+        told = re.search(rf"`ptab ({name}(?: [^`]*)?)`", docs).group(1)
         same(f"docs/commands.md on {name}", arguments(told), arguments(line.removeprefix("ptab "), *COMMON))
         statuses = re.search(r"Exit status: ([\d, ]+)\.", described[name]).group(1).replace(", ", "")
         same(f"the statuses of {name}", statuses, digits(text))
@@ -291,7 +291,8 @@ def texts_of_pages(docs):
     edit = {**of["edit"], **reads}
     same("plan has no refusal of its own", of["plan"], {})
     return {"show": {**reads, **one_copy, **plan_text}, "verify": {**of["verify"], **devices}, "locate": {**of["locate"], **reads},
-            "edit": {**edit, **in_use}, "plan": {text: it for text, it in edit.items() if text not in locked},
+            "free": reads, "types": of["types"], "edit": {**edit, **in_use},
+            "plan": {text: it for text, it in edit.items() if text not in locked},
             "check": {**of["check"], **devices}, "apply": {**of["check"], **locked, **in_use, **devices},
             "repair": {**of["repair"], **locked, **in_use, **reads},
             "adopt": {**of["adopt"], **plans, **locked, **in_use, **devices}}

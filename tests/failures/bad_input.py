@@ -54,8 +54,8 @@ def not_images(ptab, folder):
     missing = f"{folder}/missing"
     plan = file_of(folder, "no_plan", b"")
     for path in (missing, folder, "/dev/null", f"{folder}/a/b"):
-        for command in (["show", path], ["verify", path], ["locate", path, "1", "0"], ["edit", path, "c:1:x"], ["plan", path, "c:1:x"],
-                        ["check", path, plan], ["apply", path, plan], ["repair", path]):
+        for command in (["show", path], ["show", "--json", path], ["verify", path], ["locate", path, "1", "0"], ["free", path],
+                        ["edit", path, "c:1:x"], ["plan", path, "c:1:x"], ["check", path, plan], ["apply", path, plan], ["repair", path]):
             expect(ptab, command, path, "", "device\n", 5)
     for command in ("edit", "plan"):
         expect(ptab, [command, missing, "--fresh", "0", "x"], missing, "", "bad fresh\n", 2)
@@ -66,7 +66,7 @@ def not_images(ptab, folder):
         path = file_of(folder, name, content)
         expect(ptab, ["show", path], path, "", "no table: too small\n", 4)
         expect(ptab, ["verify", path], path, "no 1 no table\n", "", 1)
-        for command in (["edit", path, "c:1:x"], ["plan", path, "c:1:x"], ["repair", path]):
+        for command in (["show", "--json", path], ["free", path], ["edit", path, "c:1:x"], ["plan", path, "c:1:x"], ["repair", path]):
             expect(ptab, command, path, "", "no table: too small\n", 4)
         expect(ptab, ["check", path, plan], path, "no 8 1\n", "", 1)
         expect(ptab, ["apply", path, plan], path, "no 8 1\n", "", 1)
@@ -92,13 +92,14 @@ WORDS = ("", "x", "z:1:x", "cc:1:x", "N:1:0:0",
 def no_devices(ptab, folder):
     """With `--device` what is no block device; and `--in-use` without it."""
     image, plan = file_of(folder, "plain.img", one_partition()), file_of(folder, "no_plan", b"")
-    for command, *words in (["show"], ["show", "--after", plan], ["verify"], ["locate", "1", "0"], ["edit", "c:1:x"], ["plan", "c:1:x"],
-                            ["check", plan], ["apply", plan], ["repair"], ["adopt", image], ["adopt", "--plan", image]):
+    for command, *words in (["show"], ["show", "--after", plan], ["show", "--json"], ["verify"], ["locate", "1", "0"], ["free"],
+                            ["edit", "c:1:x"], ["plan", "c:1:x"], ["check", plan], ["apply", plan], ["repair"], ["adopt", image],
+                            ["adopt", "--plan", image]):
         for size in ([], ["--sector-size", "512"], ["--sector-size=4096"]):
             for path in (image, folder, "/dev/null"):
                 expect(ptab, [command, "--device", *size, path, *words], image, "", "device: not a block device\n", 5)
             expect(ptab, [command, *size, "--device", f"{folder}/missing", *words], image, "", "device\n", 5)
-        alone = None if command in ("show", "verify", "locate", "plan", "check") else IN_USE_ALONE
+        alone = None if command in ("show", "verify", "locate", "free", "plan", "check") else IN_USE_ALONE
         expect(ptab, [command, "--in-use", image, *words], image, "", alone, 2)
         expect(ptab, [command, "--device", "--device", image, *words], image, "", None, 2)
     expect(ptab, ["edit", "--in-use", "--fresh", "0", image, "x"], image, "", IN_USE_ALONE, 2)
@@ -159,7 +160,7 @@ def plans(ptab, folder):
     """Plan files that can't be read or hold no plan, before an image that is missing; and plans that the checker refuses."""
     missing = f"{folder}/missing"
     image = file_of(folder, "healthy", one_partition())
-    for command, *option in (("check",), ("apply",), ("show", "--after")):
+    for command, *option in (("check",), ("apply",), ("show", "--after"), ("show", "--json", "--after")):
         for path in (missing, folder, "/dev/null", f"{folder}/a/b", ""):
             expect(ptab, [command, missing, *option, path], missing, "", "device\n", 5)
             expect(ptab, [command, image, *option, path], image, "", "device\n", 5)
@@ -190,10 +191,11 @@ def plans(ptab, folder):
 
 
 def usage(ptab, image):
-    commands = (["show", image], ["verify", image], ["locate", image, "1", "0"], ["edit", image, "c:1:x"], ["plan", image, "c:1:x"],
-                ["check", image, image], ["apply", image, image], ["repair", image])
+    commands = (["show", image], ["show", "--json", image], ["verify", image], ["locate", image, "1", "0"], ["free", image],
+                ["edit", image, "c:1:x"], ["plan", image, "c:1:x"], ["check", image, image], ["apply", image, image], ["repair", image])
     for words in ([], ["show"], ["verify"], ["locate", image], ["locate", image, "1"], ["locate", image, "1", "0", "0"],
-                  ["edit", image], ["nothing"], ["nothing", image], ["show", image, image], ["show", "--depth", image],
+                  ["free"], ["free", image, image], ["free", "--no-lock", image], ["edit", image], ["nothing"], ["nothing", image],
+                  ["show", image, image], ["show", "--depth", image],
                   ["plan"], ["plan", image], ["check"], ["check", image], ["check", image, image, image],
                   ["check", "--fresh", "", image, image],
                   ["apply", image], ["apply", image, image, "c:1:x"], ["plan", image, "--fresh"], ["edit", image, "--fresh"],
@@ -203,7 +205,12 @@ def usage(ptab, image):
                   ["edit", "--no-lock=1", image, "c:1:x"], ["show", "--no-lock", image],
                   ["plan", "--no-lock", image, "c:1:x"], ["check", "--no-lock", image, image],
                   ["--no-lock", "repair", image], ["show", image, "--after"], ["show", "--after", "", "--after", "", image],
-                  ["verify", "--after", image, image], ["check", "--after", image, image, image]):
+                  ["verify", "--after", image, image], ["check", "--after", image, image, image],
+                  ["show", "--json"], ["show", "--json", image, image], ["show", "--json", "--json", image], ["show", "--json=1", image],
+                  ["show", "--jso", image], ["--json", "show", image], ["verify", "--json", image], ["free", "--json", image],
+                  ["locate", "--json", image, "1", "0"], ["plan", "--json", image, "c:1:x"], ["types", image], ["types", "gpt"],
+                  ["types", ""], ["types", "--json"], ["types", "--device"], ["types", "--sector-size", "512"], ["types", "--no-lock"],
+                  ["types", "types"], ["types", "--after", image], ["type"], ["Types"], ["--types"]):
         expect(ptab, words, image, "", None, 2)
     for words in commands:
         for size in ("1024", "0512", "0", "", "8192", "512 "):
@@ -221,13 +228,13 @@ def not_text(ptab, folder):
         it.write(one_partition())
     image, log = file_of(folder, "text.img", one_partition()), f"{folder}/log"
     plan = file_of(folder, "no_plan", b"")
-    lines = [[b"show", bad], [b"verify", bad], [b"locate", bad, b"1", b"0"], [b"edit", bad, b"c:1:x"], [b"plan", bad, b"c:1:x"],
-             [b"check", bad, plan], [b"check", image, bad], [b"show", image, b"--after", bad],
+    lines = [[b"show", bad], [b"verify", bad], [b"locate", bad, b"1", b"0"], [b"free", bad], [b"edit", bad, b"c:1:x"],
+             [b"plan", bad, b"c:1:x"], [b"check", bad, plan], [b"check", image, bad], [b"show", image, b"--after", bad],
              [b"apply", bad, plan], [b"apply", image, bad], [b"repair", bad],
              [b"edit", image, b"c:1:\xe9t\xe9"], [b"edit", image, b"d:1", b"\xed\xa0\x80"], [b"edit", image, b"x", b"\xc0\x80"],
              [b"edit", image, b"--fresh", b"\x80", b"c:1:x"], [b"locate", image, b"\xf5", b"x"],
              [b"show", image, b"--sector-size", b"\xfe"], [b"show", image, b"--\xff"], [b"\xff"], [b"--help", b"\xff"],
-             [b"repair", image, b"--no-lock", b"\xff"]]
+             [b"repair", image, b"--no-lock", b"\xff"], [b"show", b"--json", bad], [b"types", b"\xff"], [b"types", bad]]
     for words in lines:
         done = subprocess.run(["strace", "-qq", "-e", "trace=file,flock", "-o", log, ptab, *words], capture_output=True)
         found = done.stdout, done.stderr, done.returncode
@@ -252,9 +259,11 @@ def read_only(ptab, folder):
     os.chmod(plan, 0o444)
     for mode, status in ((0o444, 0), (0o000, 5)):
         os.chmod(image, mode)
-        for words, refused in ((["show", image], False), (["verify", image], False), (["locate", image, "1", "0"], False),
-                               (["plan", image, "c:1:x"], False), (["check", image, plan], False), (["edit", image, "c:1:x"], True),
-                               (["edit", image, "a:1"], True), (["apply", image, plan], True), (["repair", image], True)):
+        for words, refused in ((["show", image], False), (["show", "--json", image], False), (["verify", image], False),
+                               (["locate", image, "1", "0"], False), (["free", image], False),
+                               (["plan", image, "c:1:x"], False), (["check", image, plan], False),
+                               (["edit", image, "c:1:x"], True), (["edit", image, "a:1"], True), (["apply", image, plan], True),
+                               (["repair", image], True)):
             done = subprocess.run([program, *words], capture_output=True, text=True, **who)
             if done.returncode != (5 if refused else status) or done.returncode == 5 and (done.stdout, done.stderr) != ("", "device\n"):
                 sys.exit(f"ptab {' '.join(words)} of an image with mode {mode:o}: {done.stdout}{done.stderr}status {done.returncode}")

@@ -78,7 +78,7 @@ def commands(it, sectors, what, image):
     """Every command on one table."""
     path = put(it.at("under"), bytes(image))
     with Loop(path, sectors.size) as loop:
-        for words in (["show"], ["verify"], ["repair"], ["locate", "1", "0"], ["locate", "2", "5"]):
+        for words in (["show"], ["verify"], ["repair"], ["locate", "1", "0"], ["locate", "2", "5"], ["free"]):
             both(it, what, loop, image, *words)
         both(it, what, loop, image, "adopt", put(it.at("other"), sectors.gpt(sectors.count(image), {})))
         both(it, what, loop, image, "adopt", "--plan", put(it.at("other"), image))
@@ -241,8 +241,8 @@ def no_devices(it):
     """What is no block device. This needs no root."""
     path = put(it.at("plain"), SMALL.gpt(2048, {1: entry(100, 200)}))
     plan = put(it.at("plan"), b"")
-    for command, *words in (["show"], ["verify"], ["locate", "1", "0"], ["plan", "d:1"], ["edit", "d:1"], ["check", plan], ["apply", plan],
-                            ["repair"], ["adopt", path]):
+    for command, *words in (["show"], ["show", "--json"], ["verify"], ["locate", "1", "0"], ["free"], ["plan", "d:1"], ["edit", "d:1"],
+                            ["check", plan], ["apply", plan], ["repair"], ["adopt", path]):
         for place in (path, "/dev/null", it.folder):
             it.same(f"{command} of {place}", it.run(command, "--device", place, *words), NOT_BLOCK)
         it.same(f"{command} of nothing", it.run(command, "--device", it.at("nothing"), *words), ("", "device\n", 5))

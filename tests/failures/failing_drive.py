@@ -139,7 +139,7 @@ class SameOpening(PtabRun):
 
     def __init__(self, it):
         super().__init__(it)
-        lib.load(it.at("libptab.so.1"))
+        lib.load(it.at("libptab.so.2"))
         self.disk = None
 
     def edit(self, place, words):

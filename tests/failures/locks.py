@@ -97,7 +97,8 @@ def by_callers(ptab, folder):
         same(f"what {words} leaves under flock", content(path) == wanted, True)
     with held(path):
         same("--no-lock without a word", answer(ptab, "edit", "--no-lock", path)[2], 2)
-    for words in (["show", path], ["verify", path], ["locate", path, "1", "0"], ["plan", path, "c:1:x"], ["check", path, plan]):
+    for words in (["show", path], ["show", "--json", path], ["verify", path], ["locate", path, "1", "0"], ["free", path], ["types"],
+                  ["plan", path, "c:1:x"], ["check", path, plan]):
         out, errors, status = answer(ptab, *words, "--no-lock")
         same(f"{words} --no-lock", (out, "unexpected argument '--no-lock'" in errors, status), ("", True, 2))
     same("no lock is left", holder(path), [])

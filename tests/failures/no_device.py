@@ -28,6 +28,9 @@ DEVICE = ("", "device\n", 5)
 OTHER_DEVICE = ("", "other: device\n", 5)
 # what follows the image of a command: the file of the words' plan, or the image that the words make
 PLAN, OTHER, AFTER, COPY = ("plan",), ("other",), ("after",), ("--copy", "backup")
+JSON, JSON_AFTER = ("--json",), ("json", "after")
+# of the words whose plan an adoption writes
+KEEP = "--keep-primary"
 # What can come of a call, by its letter: how it fails, and errno. The others of `MORE` come at fewer calls, but with `all`. Of a plan's
 # file a read of nothing is its end.
 FAULTS = {"s": ((FAILS, errno.EIO),), "o": ((FAILS, errno.EIO),), "l": ((FAILS, errno.EIO),), "r": ((FAILS, errno.EIO),), "c": (),
@@ -198,15 +201,29 @@ def full_streams(ptab, disk):
     return runs
 
 
+def types(ptab):
+    """How many runs were compared: the list of types, which no image is opened for, with such streams."""
+    unread, closed = os.pipe()
+    os.close(unread)
+    with open("/dev/full", "wb") as full:
+        for stream, errors in ((full, "device\n"), (closed, "")):
+            done = subprocess.run([ptab, "types"], stdout=stream, stderr=subprocess.PIPE, text=True)
+            if (done.stderr, done.returncode) != (errors, 5):
+                fail("types", (done.stderr, done.returncode), (errors, 5))
+    os.close(closed)
+    return 2
+
+
 def lines(words):
     """Of each command what follows the image, and the words whose plan it writes."""
-    return {"edit": (words, words), "apply": (PLAN, words), "repair": ((), ("a:1",)), "adopt": (OTHER, words), "plan": (words, ()),
-            "check": (PLAN, ()), "verify": ((), ()), "show": ((), ()), "show after": (AFTER, ()), "show copy": (COPY, ()),
-            "locate": (("1", "0"), ())}
+    return {"edit": (words, words), "apply": (PLAN, words), "repair": ((), ("a:1",)), "adopt": (OTHER, (KEEP, *words)),
+            "plan": (words, ()), "check": (PLAN, ()), "verify": ((), ()), "show": ((), ()), "show after": (AFTER, ()),
+            "show copy": (COPY, ()), "show json": (JSON, ()), "show json after": (JSON_AFTER, ()),
+            "locate": (("1", "0"), ()), "free": ((), ())}
 
 
 def files(it):
-    return {PLAN: (it.plan,), OTHER: (it.other,), AFTER: ("--after", it.plan)}
+    return {PLAN: (it.plan,), OTHER: (it.other,), AFTER: ("--after", it.plan), JSON_AFTER: ("--json", "--after", it.plan)}
 
 
 def on_disk(ptab, loaded, disk, command, step, whole):
@@ -217,14 +234,14 @@ def on_disk(ptab, loaded, disk, command, step, whole):
     with room() as folder:
         it = Failing(ptab, loaded, folder)
         it.put(image)
-        if rest in (PLAN, AFTER):
+        if rest in (PLAN, AFTER, JSON_AFTER):
             it.write_plan(it.run(("plan", *size, it.path, *words))[0])
         if rest == OTHER:
             it.write_other(("edit", *size), words)
         if command == "repair" and it.run(("show", *size, it.path))[2] != 0:
             writing = ()
         run = Run(it, name, sectors, image, (command.split()[0], *size, it.path, *files(it).get(rest, rest)), writing)
-        return [fail_each(run, on, step, whole) for on in (it.path, *files(it).get(rest, ())) if on != "--after"]
+        return [fail_each(run, on, step, whole) for on in (it.path, *files(it).get(rest, ())) if not on.startswith("--")]
 
 
 def main():
@@ -234,7 +251,7 @@ def main():
         disks = [(disk, 1) for disk in faults.disks()]
         disks += [(disk, 1 if whole else 17) for disk in (*faults.damaged_disks(), *faults.more_disks())]
         jobs = [pool.submit(on_disk, ptab, loaded, disk, command, step, whole) for disk, step in disks for command in lines(())]
-        streams = sum(full_streams(ptab, disk) for disk in faults.disks())
+        streams = sum(full_streams(ptab, disk) for disk in faults.disks()) + types(ptab)
         done = [it for job in jobs for it in job.result()]
     print(f"no device: {sum(runs for _, runs in done) + streams} passed, 0 failed, of {sum(calls for calls, _ in done)} calls")
 

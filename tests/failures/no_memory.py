@@ -29,10 +29,12 @@ def commands(it, sectors, words):
         fail(f"plan {words}", (errors, status), ("", 0))
     it.write_plan(text)
     it.write_other(("edit", *size), words)
-    for name, rest in (("show", ()), ("show", ("--after", it.plan)), ("show", ("--copy", "backup")), ("verify", ()), ("locate", ("1", "0")),
+    for name, rest in (("show", ()), ("show", ("--after", it.plan)), ("show", ("--copy", "backup")), ("show", ("--json",)),
+                       ("show", ("--json", "--after", it.plan)), ("verify", ()), ("locate", ("1", "0")), ("free", ()),
                        ("plan", words), ("check", (it.plan,)), ("apply", (it.plan,)),
                        ("edit", words), ("repair", ()), ("adopt", (it.other,)), ("adopt", (it.other, "--plan"))):
         yield (name, *size, it.path, *rest)
+    yield ("types",)
 
 
 def refuse(it, name, image, words, step):

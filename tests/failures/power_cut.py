@@ -2,7 +2,8 @@
 """Cuts the power in each phase of real edits, of every kind of table. The writes and syncs of the built command on an image are
 taken down by strace; then, for each phase, images that hold the phases before and any choice of this phase's writes are shown: the
 old layout (or none, where there was none) before the phase that switches, the new one after it, one of the two in it; and a repair of
-them keeps what they show and leaves them healthy. Repairs of every kind of damage are cut the same way: each such image has the layout
+them keeps what they show and leaves them healthy. Where the primary copy is kept, a plain reader of it finds the old table and then the
+new one, and turns with the same write. Repairs of every kind of damage are cut the same way: each such image has the layout
 that was there, and a repair of it ends as the whole one.
 
 usage: tests/failures/power_cut.py PTAB
@@ -16,7 +17,8 @@ from concurrent.futures import ProcessPoolExecutor
 sys.path.insert(0, os.path.join(os.path.dirname(os.path.abspath(__file__)), "..", "shared"))
 import images
 from damages import Gpt, damages, sliced
-from images import FREEBSD, LARGE, SMALL, ebr, entry, guid, label, one_partition, record, room
+from images import FREEBSD, LARGE, SMALL, array_of, ebr, entry, guid, label, one_partition, record, room
+from reader import followed
 from writes import choices, recorded, written
 
 FRESH = "--fresh 000102030405060708090a0b0c0d0e0f" + "0" * 32
@@ -30,17 +32,34 @@ def shown(ptab, path, image, sectors, command="show"):
     return said(ptab, path, sectors, command)
 
 
-def said(ptab, path, sectors, command):
-    done = subprocess.run([ptab, command, path, "--sector-size", str(sectors.size)], capture_output=True, text=True)
+def said(ptab, path, sectors, command, *more):
+    done = subprocess.run([ptab, command, path, "--sector-size", str(sectors.size), *more], capture_output=True, text=True)
     return done.stdout, done.stderr, done.returncode
 
 
-def repaired(ptab, path, sectors, found):
+def repaired(ptab, path, sectors, found, keeps):
     """Whether a repair of the image, which shows what was found, leaves it healthy with that; where that is no table it is refused."""
-    done = said(ptab, path, sectors, "repair")
+    done = said(ptab, path, sectors, "repair", *(["--keep-primary"] if keeps else []))
     if found[2] != 0:
         return done == found
     return (done, said(ptab, path, sectors, "show"), said(ptab, path, sectors, "verify")) == (("done\n", "", 0), found, ("yes\n", "", 0))
+
+
+class Followed:
+    """What a reader of the primary copy alone may find, from one image to another. Nothing is said where there was no GPT."""
+
+    def __init__(self, image, after, sectors):
+        self.sectors, self.first = sectors, followed(image, sectors)
+        self.old, self.new = self.first or followed(image, sectors, "backup"), followed(after, sectors)
+
+    def hold(self, what, image, number, switch):
+        """A copy that was lost may still be so in the first phase."""
+        global checked
+        allowed = [self.old] if number < switch else [self.new] if number > switch else [self.old, self.new]
+        found = followed(image, self.sectors)
+        if self.old and found not in allowed and not (found is self.first is None and number == 1):
+            sys.exit(f"{what}: a reader of the primary copy finds {'nothing' if found is None else 'another table'}")
+        checked += 1
 
 
 def cut(ptab, folder, name, image, words, counts, switch, sectors=SMALL):
@@ -54,7 +73,9 @@ def cut(ptab, folder, name, image, words, counts, switch, sectors=SMALL):
         after = it.read()
     if [len(phase) for phase in phases] != counts:
         sys.exit(f"{name}: phases of {[len(phase) for phase in phases]} writes, not of {counts}")
+    keeps = "--keep-primary" in words
     old, new = shown(ptab, path, image, sectors), shown(ptab, path, after, sectors)
+    tables = Followed(image, after, sectors) if keeps else None
     if old == new or shown(ptab, path, after, sectors, "verify")[0] != "yes\n":
         sys.exit(f"{name}: nothing changed, or the image isn't healthy")
     rng = random.Random(1)
@@ -65,7 +86,9 @@ def cut(ptab, folder, name, image, words, counts, switch, sectors=SMALL):
             found = shown(ptab, path, written(before, writes, sectors), sectors)
             if found not in allowed:
                 sys.exit(f"{name}: stopped in phase {number} by {[lba for lba, _ in writes]}: {found}")
-            if not repaired(ptab, path, sectors, found):
+            if keeps:
+                tables.hold(f"{name}: stopped in phase {number}", written(before, writes, sectors), number, switch)
+            if not repaired(ptab, path, sectors, found, keeps):
                 sys.exit(f"{name}: stopped in phase {number} by {[lba for lba, _ in writes]}: not repaired")
             checked += 2
         before = bytes(written(before, phase, sectors))
@@ -90,6 +113,99 @@ def on_gpt():
     yield "a grown disk", whole + SMALL.zeros(1000), "e", [33, 1, 32, 1, 1], 2
     two = SMALL.gpt(4096, {1: entry(2048, 3000), 2: entry(3001, 4000, unique=images.DISK)})
     yield "a deletion", two, "d:1 t:2:8200", [33, 1, 32, 1], 2
+
+
+def kept_on_gpt():
+    """The same, with the primary copy kept."""
+    whole = one_partition()
+    broken, unlinked, moved = bytearray(whole), bytearray(whole), bytearray(whole)
+    broken[SMALL.size] ^= 0xFF
+    SMALL.put_side(unlinked, "backup", {1: entry(2048, 4062, name="other")})
+    SMALL.put_side(moved, "primary", {1: entry(2048, 4062)}, array=100)
+    SMALL.put(moved, 2, bytes(32 * SMALL.size))
+    SMALL.put(moved, 100, array_of({1: entry(2048, 4062)}))
+    bare = SMALL.zeros(2048)
+    SMALL.put(bare, 1, b"something")
+    yield "a name", whole, "c:1:data", [33, 1, 32, 1], 2
+    yield "a name from the backup", broken, "c:1:data", [1, 32, 1, 33], 3
+    yield "a name by a moved array", moved, "c:1:data", [1, 32, 1, 33], 3
+    yield "a name over another backup", unlinked, "c:1:data", [33, 1, 32, 1], 2
+    yield "the name of the backup", unlinked, "c:1:other", [1, 32, 1], 1
+    yield "a disk's GUID", whole, f"U:{images.FIRST}", [33, 1], 2
+    yield "a disk's GUID from the backup", broken, f"U:{images.FIRST}", [1, 33], 1
+    yield "a new table", SMALL.zeros(2048), f"{FRESH} o", [1, 33, 1], 1
+    yield "a new table over something", bare, f"{FRESH} o a:1 n:1:0:0", [1, 32, 1, 33, 1], 3
+    yield "a new table with a partition", SMALL.zeros(2048), f"{FRESH} o a:1 n:1:0:0", [32, 1, 33, 1], 2
+    yield "a new table over another", whole, f"{FRESH} o", [33, 1, 32, 1], 2
+    yield "a grown disk", whole + SMALL.zeros(1000), "e", [33, 1, 1], 2
+    sliced = SMALL.gpt(2048, {1: entry(100, 1099, FREEBSD)})
+    SMALL.put(sliced, 101, label(1000, {0: (100, 16, 7)}))
+    lost = bytearray(sliced)
+    lost[SMALL.size] ^= 0xFF
+    yield "a slice", SMALL.gpt(2048, {}), f"{FRESH} a:1 n:1:100:1099:A500 n:1.a:0:0", [34, 1, 32, 1], 2
+    yield "a slice from the backup", lost, f"{FRESH} a:1 n:2:1100:1199:A500", [1, 33, 1, 33], 3
+    yield "a deleted slice", sliced, "d:1", [33, 1, 32, 1], 2
+    yield "a label's changed partition", sliced, "t:1.a:01", [1], 1
+    yield "an MBR to a GPT", SMALL.mbr(1024, [record(0x83, 100, 100)]), f"{FRESH} g", [66, 1], 2
+
+
+def kept_on_large_sectors():
+    whole = LARGE.gpt(64, {1: entry(6, 40)})
+    lost = bytearray(whole)
+    LARGE.put(lost, 1, bytes(LARGE.size))
+    yield "a name", whole, "c:1:data", [5, 1, 4, 1], 2
+    yield "a name from the backup", lost, "c:1:data", [1, 4, 1, 5], 3
+    yield "a grown disk", whole + LARGE.zeros(10), "e", [5, 1, 1], 2
+
+
+def kept(table):
+    for name, image, words, counts, switch in table():
+        yield f"{name}, the primary kept", image, f"--keep-primary {words}", counts, switch
+
+
+def kept_repairs():
+    """(name, image, the number of writes in each phase)"""
+    whole = SMALL.gpt(100, {1: entry(34, 50, name="data"), 2: entry(51, 60, unique=guid(2))})
+
+    def without(first, count):
+        image = bytearray(whole)
+        SMALL.put(image, first, bytes(count * SMALL.size))
+        return image
+    bridged = without(2, 32)
+    SMALL.put_side(bridged, "primary", {1: entry(34, 50, name="data"), 2: entry(51, 60, unique=guid(2))}, array=67)
+    SMALL.put(bridged, 2, bytes(32 * SMALL.size))
+    yield "the primary header", without(1, 1), [1]
+    yield "the primary array", without(2, 32), [1, 32, 1]
+    yield "the primary copy", without(1, 33), [1, 32, 1]
+    yield "a bridge", bridged, [32, 1]
+    yield "the backup header", without(99, 1), [33]
+    yield "the backup copy", without(67, 33), [33]
+    yield "the record in sector 0", without(0, 1), [1]
+    yield "a grown disk", whole + SMALL.zeros(50), [33, 1, 1]
+
+
+def repair_kept(ptab, folder, name, image, counts):
+    """Repairs the image with the primary kept, and stops that in each phase."""
+    global checked
+    path = f"{folder}/image"
+    old = shown(ptab, path, image, SMALL)
+    phases = recorded(ptab, path, "repair", ["--keep-primary"], SMALL)
+    if [len(phase) for phase in phases] != [0, *counts]:
+        sys.exit(f"a repair of {name}: phases of {[len(phase) for phase in phases]} writes, not of {[0, *counts]}")
+    with open(path, "rb") as it:
+        after = it.read()
+    tables, before = Followed(image, after, SMALL), bytes(image)
+    for number, phase in enumerate(phases[1:], 1):
+        for writes in choices(random.Random(1), phase):
+            now = written(before, writes, SMALL)
+            tables.hold(f"a repair of {name}, stopped in phase {number}", now, number, len(phases))
+            found = shown(ptab, path, now, SMALL)
+            if found != old or not repaired(ptab, path, SMALL, found, True):
+                sys.exit(f"a repair of {name}, stopped in phase {number}: {found}")
+            checked += 2
+        before = bytes(written(before, phase, SMALL))
+    if before != after or tables.new != tables.old or shown(ptab, path, after, SMALL, "verify")[0] != "yes\n":
+        sys.exit(f"a repair of {name}: another table, or the image isn't healthy")
 
 
 def on_slices_of_gpt():
@@ -253,11 +369,18 @@ def cut_repairs(ptab, part, parts):
     return checked
 
 
-def cut_edits(ptab, sectors, table):
+def cut_edits(ptab, sectors, table, keeps=False):
     """The same."""
     with room() as folder:
-        for name, image, words, counts, switch in table():
+        for name, image, words, counts, switch in kept(table) if keeps else table():
             cut(ptab, folder, name, image, words.split(" "), counts, switch, sectors)
+    return checked
+
+
+def cut_kept_repairs(ptab):
+    with room() as folder:
+        for name, image, counts in kept_repairs():
+            repair_kept(ptab, folder, name, image, counts)
     return checked
 
 
@@ -271,7 +394,9 @@ def main():
     with ProcessPoolExecutor() as pool:
         tables = [(SMALL, table) for table in (on_gpt, on_slices_of_gpt, on_mbr, on_chains)] + [(LARGE, on_large_sectors)]
         done = [pool.submit(counted, cut_edits, ptab, sectors, table) for sectors, table in tables]
+        done += [pool.submit(counted, cut_edits, ptab, *it, True) for it in ((SMALL, kept_on_gpt), (LARGE, kept_on_large_sectors))]
         done += [pool.submit(counted, cut_repairs, ptab, part, 8) for part in range(8)]
+        done += [pool.submit(counted, cut_kept_repairs, ptab)]
         print(f"power cuts: {sum(it.result() for it in done)} passed, 0 failed")
 
 

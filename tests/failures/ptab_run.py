@@ -26,6 +26,7 @@ import other_tools_runs
 import ptab_run_devices
 import ptab_run_hostile
 from images import SMALL, entry, record, room
+from plans import both_copies, phases_of, sectors_of, spelled
 from tools import must, run
 
 RUN = f"{os.path.dirname(TESTS)}/tools/ptab-run"
@@ -320,6 +321,29 @@ def file_systems(it):
         it.same(f"{name}: with a partition", it.do(it.path, "sfdisk", "-q", "--part-type", "@", "1", "7")[1:], ("done\n", 0))
 
 
+# ---- the primary copy meanwhile
+
+
+def primary(it):
+    """The primary copy is kept, but for --by-table; and an image on which such a run was stopped is edited as any other is."""
+    for more, meanwhile in (((), b"EFI PART"), (("--by-table",), bytes(8))):
+        it.gpt()
+        out, _, status = it.do("--plan", *more, *it.rename())
+        phases = phases_of(out, SMALL.size)
+        it.same(f"the phases {more}", (status, spelled(sectors_of(phases))), (0, both_copies(SMALL, SECTORS)))
+        it.same(f"sector 1 meanwhile {more}", phases[1][0][1][:8], meanwhile)
+        it.same(f"the run {more}", (it.do(*more, *it.rename())[1:], it.names()), (("done\n", 0), ["new"]))
+        for tool in (["sgdisk", "-c", "1:more", "@"], ["sfdisk", "-q", "--part-label", "@", "1", "more"]):
+            image = SMALL.gpt(SECTORS, {1: entry(100, 200, name="old")})
+            for phase in phases[:2]:
+                for lba, content in phase:
+                    SMALL.put(image, lba, content)
+            it.write(image)
+            _, lines, status = it.do(it.path, *tool)
+            it.same(f"{tool[0]} behind a stop {more}", (lines.endswith("done\n"), status, it.names()), (True, 0, ["more"]))
+            it.same(f"{tool[0]} behind a stop {more}: healthy", it.ptab_says("verify", it.path), ("yes\n", "", 0))
+
+
 def main():
     if len(sys.argv) != 2:
         sys.exit("usage: tests/failures/ptab_run.py PTAB")
@@ -327,7 +351,7 @@ def main():
     # whatever ran this script ignored; `nohup` tries what then happens
     for number in SIGNALS:
         signal.signal(number, signal.SIG_DFL)
-    for part in (signals, nohup, at_any_moment, moved, full, copies, names, closed, isolated, cut_off, unread, file_systems,
+    for part in (signals, nohup, at_any_moment, moved, full, copies, names, closed, isolated, cut_off, unread, file_systems, primary,
                  ptab_run_hostile.all_of, ptab_run_devices.all_of):
         with room() as folder:
             it = Tried(ptab, RUN, folder)

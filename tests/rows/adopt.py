@@ -6,13 +6,15 @@ usage: tests/rows/adopt.py PTAB
 """
 import os
 import sys
+import zlib
 
 sys.path.insert(0, os.path.join(os.path.dirname(os.path.abspath(__file__)), "..", "shared"))
 import compared
 import images
 from command import Command
 from compared import same
-from images import FREEBSD, LARGE, SMALL, entry, guid, label, record
+from images import FREEBSD, LARGE, SMALL, array_of, entry, guid, label, record
+from plans import phases_of, sectors_of, spelled
 
 COUNT = 300
 
@@ -62,6 +64,9 @@ def takes(make):
                 left, taken = pair.image.image(), make(sectors, image, other)
                 same(f"{told}: by its plan", applied(taken, plan[0]), left)
                 same(f"{told}: once more", (pair.adopt(), pair.image.image()), (("done\n", "", 0), left))
+                by_table = make(sectors, image, other)
+                same(f"{told} by the table", by_table.adopt("--by-table"), ("done\n", "", 0))
+                same(f"{told} by the table: the same table", by_table.image.image(), left)
 
 
 def applied(pair, plan):
@@ -71,6 +76,26 @@ def applied(pair, plan):
         it.write(plan)
     same("the plan is applied", pair.image.run("apply", path), ("done\n", "", 0))
     return pair.image.image()
+
+
+def either_way(make):
+    """The primary copy is kept, but for --by-table: the sectors of each phase, and what stands in sector 1 meanwhile."""
+    for sectors in (SMALL, LARGE):
+        array, first = sectors.array, sectors.array + 2
+        entries = {1: entry(first, first + 9, name="other")}
+        other = sectors.gpt(COUNT, entries)
+        pair = make(sectors, sectors.gpt(COUNT, {1: entry(first, first + 9)}), other)
+        last = f"{COUNT - array - 1}-{COUNT - 1}"
+        wanted = sectors.header(my=1, alternate=COUNT - 1, first=first, last=COUNT - first, array=COUNT - array - 1,
+                                array_crc=zlib.crc32(array_of(entries)))
+        for words, meanwhile in (((), wanted), (("--by-table",), bytes(sectors.size))):
+            phases = phases_of(pair.adopt("--plan", *words)[0], sectors.size)
+            same(f"the phases {words}", spelled(sectors_of(phases)), f"{last} | 1 | 2-{array + 1} | 1")
+            same(f"sector 1 meanwhile {words}", phases[1][0][1], meanwhile)
+        blank = make(sectors, sectors.zeros(COUNT), other)
+        for words, first_phase in (((), ""), (("--by-table",), "1 | ")):
+            phases = phases_of(blank.adopt("--plan", *words)[0], sectors.size)
+            same(f"the phases on a blank image {words}", spelled(sectors_of(phases)), f"{first_phase}2-{array + 1} | 1 | {last} | 0")
 
 
 def refuses(make):
@@ -118,6 +143,7 @@ def main():
         takes(make)
         refuses(make)
         mbrs(make)
+        either_way(make)
     print(f"adopt: {compared.count} passed, 0 failed")
 
 

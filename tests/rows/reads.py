@@ -1,10 +1,10 @@
 #!/usr/bin/env python3
-"""Compares the sectors that each command asks the image for with those that docs/model.md says it reads: `show` and `locate` what
-recovery reads, `show --copy` what decides what that copy gives, `verify` what decides the verdict, `check`, `apply` and `show --after`
-what a check of that plan reads, each exactly; `plan`, `edit` and `repair` no others than what decides the verdict, what a plan reads and
-what its check reads. So no bad sector elsewhere fails a call. An edit, a plan, a check and a repair read no sector twice. All this on
-tables of every kind and both sector sizes, with edits of several kinds that are done and that are refused. A rename in a GPT reads at most
-140 sectors and writes 67.
+"""Compares the sectors that each command asks the image for with those that docs/model.md says it reads: `show`, `locate` and `free`
+what recovery reads, `show --copy` what decides what that copy gives, `verify` what decides the verdict, `check`, `apply` and
+`show --after` what a check of that plan reads, each exactly, and `show --json` what `show` reads; `plan`, `edit` and `repair` no others
+than what decides the verdict, what a plan reads and what its check reads. So no bad sector elsewhere fails a call. An edit, a plan, a
+check and a repair read no sector twice. All this on tables of every kind and both sector sizes, with edits of several kinds that are done
+and that are refused. A rename in a GPT reads at most 140 sectors and writes 67.
 
 usage: tests/rows/reads.py PTAB
 """
@@ -135,10 +135,13 @@ def look(it, what, sectors, image):
     """The calls that look at a disk."""
     disk = Disk(sectors, image)
     it.reads(what, sectors, image, "show", (), disk.reads, disk.reads)
+    it.reads(what, sectors, image, "show", ("--json",), disk.reads, disk.reads)
     it.reads(what, sectors, image, "locate", ("1", "0"), disk.reads, disk.reads)
+    it.reads(what, sectors, image, "free", (), disk.reads, disk.reads)
     for side in ("primary", "backup"):
         alone = disk.side_reads(side == "primary")
         it.reads(what, sectors, image, "show", ("--copy", side), alone, alone)
+        it.reads(what, sectors, image, "show", ("--json", "--copy", side), alone, alone)
     # a verdict reads label places twice
     it.reads(what, sectors, image, "verify", (), disk.verdict_reads(), disk.verdict_reads())
 
@@ -165,7 +168,7 @@ def change(it, what, sectors, image, edits, is_done):
     most = known | (plan_reads(disk.after(phases)) if is_done else {0}) | checked
     it.compare((what, "plan", edits), read, known, most)
     if is_done:
-        for command, *option in (("check",), ("show", "--after"), ("apply",)):
+        for command, *option in (("check",), ("show", "--after"), ("show", "--json", "--after"), ("apply",)):
             _, read, _ = it.once(what, sectors, image, command, [*option, it.file(plan)])
             it.compare((what, command, edits), read, checked, checked)
     _, read, wrote = it.once(what, sectors, image, "edit", words, status)

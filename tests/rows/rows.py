@@ -10,8 +10,11 @@ import sys
 sys.path.insert(0, os.path.join(os.path.dirname(os.path.abspath(__file__)), "..", "shared"))
 import rows_copies
 import rows_edit
+import rows_free
 import rows_gpt
 import rows_help
+import rows_json
+import rows_kept
 import rows_labels
 import rows_mbr
 import rows_place
@@ -24,8 +27,8 @@ import rows_turns
 import rows_words
 from eight import run_all
 
-PARTS = (rows_gpt, rows_copies, rows_mbr, rows_labels, rows_edit, rows_place, rows_plan, rows_turns, rows_records, rows_slices,
-         rows_switches, rows_words, rows_help, rows_repair)
+PARTS = (rows_gpt, rows_copies, rows_mbr, rows_labels, rows_edit, rows_place, rows_free, rows_json, rows_plan, rows_turns,
+         rows_records, rows_slices, rows_switches, rows_words, rows_help, rows_repair, rows_kept)
 
 
 def main():

@@ -47,7 +47,8 @@ def pages(command):
         if name:
             holds(f"{name} --help", more, f"Exit status: {told.split(' ')[0]} ")
             holds("ptab -h", whole, f"\n  {name} ")
-            holds(name, text, f"Usage: ptab {name} ")
+            holds(name, text, f"Usage: ptab {name}")
+        if name and name != "types":
             holds(name, text, "--sector-size <BYTES>")
 
 

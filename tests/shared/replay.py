@@ -3,12 +3,13 @@ call reads what it needs anew."""
 import ctypes as c
 
 DONE, NO, USAGE, REFUSED, NO_TABLE, DEVICE, MEMORY, WANT, ROOM, WANT_OTHER = 0, 1, 2, 3, 4, 5, 6, -1, -2, -3
-VERSION, MOST_MEMBERS, MOST_WRITES, MOST_WANTED = 1, 1056, 264, 132
+VERSION, MOST_MEMBERS, MOST_WRITES, MOST_WANTED = 2, 1056, 264, 132
+OF_ITSELF, KEPT, BY_TABLE = 0, 1, 2  # what becomes of the primary copy
 
 
 class View(c.Structure):
-    _fields_ = [("sector_size", c.c_uint32), ("sectors", c.c_uint64), ("numbers", c.c_void_p), ("numbers_len", c.c_size_t),
-                ("bytes", c.c_void_p), ("bytes_len", c.c_size_t)]
+    _fields_ = [("sector_size", c.c_uint32), ("primary", c.c_uint32), ("sectors", c.c_uint64), ("numbers", c.c_void_p),
+                ("numbers_len", c.c_size_t), ("bytes", c.c_void_p), ("bytes_len", c.c_size_t)]
 
 
 class Reply(c.Structure):
@@ -41,7 +42,7 @@ class Failed(Exception):
 class Ptab:
     """The shared object."""
 
-    def __init__(self, library="libptab.so.1"):
+    def __init__(self, library="libptab.so.2"):
         self.lib = c.CDLL(library)
         size, p, u8, u64 = c.c_size_t, c.c_void_p, c.c_uint8, c.c_uint64
         self.lib.ptab_members.argtypes = [p, p, p, size, p]
@@ -66,8 +67,8 @@ class Ptab:
 class Disk:
     """A disk of so many sectors. A call reads both ends, and then each sector that it wants; it takes nothing from earlier calls."""
 
-    def __init__(self, ptab, read, sectors, sector_size=512):
-        self.lib, self.read, self.sectors, self.size = ptab.lib, read, sectors, sector_size
+    def __init__(self, ptab, read, sectors, sector_size=512, primary=OF_ITSELF):
+        self.lib, self.read, self.sectors, self.size, self.primary = ptab.lib, read, sectors, sector_size, primary
         self.known = {}
         self.calls = 0
 
@@ -82,7 +83,7 @@ class Disk:
         self.numbers = (c.c_uint64 * max(1, len(self.known)))(*self.known)
         self.bytes = c.create_string_buffer(b"".join(self.known.values()) or b"\0")
         n = len(self.known)
-        self.view = View(self.size, self.sectors, c.addressof(self.numbers), n, c.addressof(self.bytes), n * self.size)
+        self.view = View(self.size, self.primary, self.sectors, c.addressof(self.numbers), n, c.addressof(self.bytes), n * self.size)
 
     def _add(self, sector):
         """Reads one sector more."""

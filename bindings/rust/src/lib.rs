@@ -69,6 +69,12 @@ impl Options {
         self.set(sys::IS_DEVICE, device)
     }
 
+    /// Whether plans keep the primary copy of a GPT: with yes, who reads that copy alone finds the old table or the new one wherever one
+    /// stops; with no, its header is zeroed meanwhile. Where it isn't said, an edit and a repair zero it, and an adoption keeps it.
+    pub fn keep_primary(&mut self, keep: bool) -> &mut Options {
+        self.set(sys::KEEP_PRIMARY, keep).set(sys::BY_TABLE, !keep)
+    }
+
     /// 512 or 4096; a device with another one is refused.
     pub fn sector_size(&mut self, bytes: u32) -> &mut Options {
         self.sector_size = bytes;

@@ -66,7 +66,7 @@ pub struct RawWrite {
     pub phase: u64,
 }
 
-pub const VERSION: i32 = 1;
+pub const VERSION: i32 = 2;
 pub const MOST_MEMBERS: usize = 1056;
 pub const MOST_WRITES: usize = 264;
 pub const GPT: u32 = 2;
@@ -82,6 +82,8 @@ pub const ROOM: i32 = -2;
 pub const WRITE: u32 = 1;
 pub const UNLOCKED: u32 = 2;
 pub const IS_DEVICE: u32 = 4;
+pub const KEEP_PRIMARY: u32 = 8;
+pub const BY_TABLE: u32 = 16;
 
 pub const ABOUT_ARGUMENT: u32 = 1;
 pub const ARGUMENT_PLAN: u32 = 6;

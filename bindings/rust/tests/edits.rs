@@ -1,5 +1,5 @@
-//! Calls on images: several edits in one opening, the lock, refusals, plans, a repair, another disk's layout.
-use ptab::{Disk, Error, ErrorKind, Options, TableKind, Verdict};
+//! Calls on images: several edits in one opening, the lock, refusals, plans, a repair, another disk's layout, the primary copy.
+use ptab::{Disk, Error, ErrorKind, Options, Plan, TableKind, Verdict};
 use std::fs;
 use std::path::PathBuf;
 
@@ -28,6 +28,13 @@ impl Drop for Image {
     fn drop(&mut self) {
         let _ = fs::remove_file(&self.0);
     }
+}
+
+/// Loses a sector.
+fn damage(image: &Image, sector: usize) {
+    let mut bytes = fs::read(&image.0).expect("its bytes");
+    bytes[512 * sector..512 * sector + 512].fill(0);
+    fs::write(&image.0, bytes).expect("a damage");
 }
 
 fn named(disk: &mut Disk) -> Vec<(String, String)> {
@@ -131,9 +138,7 @@ fn a_lost_copy_is_repaired() {
     let image = Image::made("repairs");
     let mut disk = image.disk();
     let healthy = fs::read(&image.0).expect("its bytes");
-    let mut damaged = healthy.clone();
-    damaged[512..1024].fill(0);
-    fs::write(&image.0, damaged).expect("a damage");
+    damage(&image, 1);
     let found = disk.verify().expect("a verdict").to_string();
     assert_eq!(found, "the primary copy of the GPT doesn't exist: the signature isn't EFI PART");
     assert!(disk.repair().expect("a repair") > 0);
@@ -150,4 +155,53 @@ fn another_layout_is_adopted() {
     assert_eq!(disk.adopt(&mut given).expect("an adoption"), 67);
     assert_eq!(disk.table().expect("a table"), given.table().expect("a table"));
     assert_eq!(disk.adopt(&mut given).expect("an adoption"), 0);
+}
+
+/// The sectors of each phase, and what a plan writes at first into sector 1.
+fn spelled(plan: &Plan) -> (Vec<(u64, usize)>, Option<&[u8]>) {
+    let phases = plan.iter().map(|phase| (phase[0].sector, phase.len())).collect();
+    (phases, plan.iter().flatten().find(|write| write.sector == 1).map(|write| write.bytes.as_slice()))
+}
+
+#[test]
+fn the_primary_copy_is_kept_or_not() {
+    let (image, other) = (Image::made("kept"), Image::made("other"));
+    other.disk().edit(&["c:1:theirs"]).expect("an edit");
+    let mut given = Disk::open(&other.0).expect("a disk");
+    let (zeros, phases) = (vec![0u8; 512], vec![(4063, 33), (1, 1), (2, 32), (1, 1)]);
+    for keep in [None, Some(true), Some(false)] {
+        let mut options = Options::new();
+        if let Some(keep) = keep {
+            options.keep_primary(!keep).keep_primary(keep);
+        }
+        let mut disk = options.open(&image.0).expect("a disk");
+        let plans = [disk.plan(&["c:1:x"]).expect("a plan"), disk.adopt_plan(&mut given).expect("a plan")];
+        for (plan, kept) in plans.iter().zip([keep == Some(true), keep != Some(false)]) {
+            let (found, first) = spelled(plan);
+            let first = first.expect("a write of sector 1");
+            assert_eq!(found, phases);
+            assert_eq!(first == zeros.as_slice(), !kept);
+            if kept {
+                // a header that names itself, the backup's sector, and the backup's array
+                let number = |at: usize| u64::from_le_bytes(first[at..at + 8].try_into().expect("eight bytes"));
+                assert_eq!((&first[..8], number(24), number(32), number(72)), (&b"EFI PART"[..], 1, 4095, 4063));
+            }
+        }
+        damage(&image, 4095);
+        let (found, first) = (disk.repair_plan().expect("a plan"), Some(zeros.as_slice()));
+        assert_eq!(spelled(&found), if keep == Some(true) { (vec![(4063, 33)], None) } else { (phases.clone(), first) });
+        image.disk().repair().expect("a repair");
+    }
+}
+
+#[test]
+fn a_lost_backup_is_mended_beside_the_primary_copy() {
+    let image = Image::made("beside");
+    let healthy = fs::read(&image.0).expect("its bytes");
+    damage(&image, 4095);
+    let mut disk = Options::new().write(true).keep_primary(true).open(&image.0).expect("a disk");
+    assert_eq!(disk.repair().expect("a repair"), 33);
+    assert_eq!(fs::read(&image.0).expect("its bytes"), healthy);
+    assert_eq!(disk.edit(&["c:1:more"]).expect("an edit"), 67);
+    assert_eq!(named(&mut disk), [pair("1", "more")]);
 }

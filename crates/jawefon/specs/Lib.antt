@@ -12,4 +12,7 @@ pub use Rattle.pt_apply.specs.Plans
 pub use Rattle.pt_check.specs.Answers
 pub use Rattle.pt_plan.specs.Batches
 pub use Rattle.pt_plan.specs.Layouts
+pub use Rattle.pt_types.specs.Types
+pub use Rattle.pt_types.specs.Listing
+pub use Rattle.pt_tables.specs.Text
 pub use Rattle.pt_sector.specs.inner.ForFields

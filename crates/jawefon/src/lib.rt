@@ -9,9 +9,10 @@
 //!   it borrows, a [`ReadCache`] asks one for each sector once, and both take their [`Room`] beforehand. [`Moments`] are what a disk of
 //!   one's own keeps for the proofs.
 //! - **Look**: [`recover`] gives the [`Layout`], [`members`] lists its partitions, and [`Layout::rows`] walks over them, each with its
-//!   record or entry. [`locate`] and [`owner`] lead from a partition to a sector and back, [`verify`] says whether the disk is healthy
-//!   or what is wrong. [`recover_traced`] also gives the sectors that decide the layout, and [`recover_from`] the layout of one copy of
-//!   a GPT alone. Of a layout alone [`unsound`] tells what is wrong with it, [`is_table`] and [`is_owned`] whose a sector is.
+//!   record or entry. [`free_blocks`] lists where a new one may lie, as [`Run`]s. [`locate`] and [`owner`] lead from a partition to a
+//!   sector and back, [`verify`] says whether the disk is healthy or what is wrong. [`recover_traced`] also gives the sectors that
+//!   decide the layout, and [`recover_from`] the layout of one copy of a GPT alone. Of a layout alone [`unsound`] tells what is wrong
+//!   with it, [`is_table`] and [`is_owned`] whose a sector is.
 //! - **Change**: [`parse_edit`] reads a word such as `n:1:0:+204800:EF00`, and [`commit`] does a list of words, all of them or none.
 //!   A word is a value too, as [`Edit::New`] with its [`End`] and [`Code`]. New GUIDs are made by [`fresh`] of 16 random bytes.
 //!   [`session`] commits several lists, [`repair`] mends what is damaged, and [`edit`] makes a layout of a layout and touches no disk.
@@ -21,6 +22,12 @@
 //!   [`plan_text`] and [`read_plan`] turn them into text and back. [`check`] says whether a plan from anywhere is safe, and
 //!   [`layout_after`] what it would make of the disk; [`apply_checked`] applies it only where it is safe. [`make_plan`] and [`apply`]
 //!   are the steps alone.
+//! - **The primary copy**: a plan that writes a GPT's table zeroes the primary header meanwhile, or keeps a reader of the primary copy
+//!   alone on a table at every moment ([`Primary`], docs/readers.md). Words, repairs and [`make_plan`] zero it; layouts from anywhere
+//!   keep it. [`plan_wanted`] and [`commit_wanted`] take what is [`Wanted`] and the choice; so do [`make_plan_by`],
+//!   [`plan_for_repair_by`], [`repair_by`], [`plan_like_by`] and [`commit_like_by`].
+//! - **Text**: [`table_text`] is a layout as JSON, in the manner of `sfdisk --json`. [`entry_type`] and [`record_type`] read the names of
+//!   partition types, [`entry_type_name`] and [`record_type_name`] give them, and [`types_text`] lists them.
 //! - **Formats**: the modules [`mbr`], [`gpt`], [`bsd`] and [`sums`] read and write single records, headers, entries and labels, and
 //!   have the types that a layout is built of.
 //!
@@ -37,26 +44,117 @@ pub mod sums;
 mod surface;
 
 pub use listing::members;
-pub use pt_apply::{Plan, PlanTextError, Write, apply, plan_text, read_plan};
-pub use pt_check::{Answer, CheckError, Why, check};
-pub use pt_disks::in_memory::{CrashDisk, MemDisk};
-pub use pt_disks::{
-    Access, FileDisk, InUse, MemStore, NoDevice, OpenError, Store, StoreDisk, device_sector_size,
-    open_plain,
-};
-pub use pt_edit::{Code, Edit, EditError, End, Refusal, edit, guids_for, parse_edit};
-pub use pt_guid::{
-    Guid, GuidError, code_of_type, fresh, parse as parse_guid, type_of_code, type_of_record,
-};
-pub use pt_layout::{
-    Body, Ebrs, Finding, Kind, Labelled, Labels, Layout, Member, NoTable, Owner, Path, Row, Rows,
-    SideError, Source, Trace, Verdict, VerifyError, is_owned, is_table, locate, owner, parse_path,
-    recover, recover_from, recover_traced, unsound, verify,
-};
-pub use pt_plan::runs::{Batch, Reply, session};
-pub use pt_plan::{
-    After, CommitError, LikeError, PlanError, RepairError, apply_checked, commit, commit_layout,
-    commit_like, layout_after, make_plan, plan_for, plan_for_layout, plan_for_repair, plan_like,
-    repair,
-};
-pub use pt_sector::{Disk, Extent, Fault, Lba, Moments, Overlay, ReadCache, Room, Sector};
+pub use pt_apply::Plan;
+pub use pt_apply::PlanTextError;
+pub use pt_apply::Write;
+pub use pt_apply::apply;
+pub use pt_apply::plan_text;
+pub use pt_apply::read_plan;
+pub use pt_check::Answer;
+pub use pt_check::CheckError;
+pub use pt_check::Why;
+pub use pt_check::check;
+pub use pt_disks::Access;
+pub use pt_disks::FileDisk;
+pub use pt_disks::InUse;
+pub use pt_disks::MemStore;
+pub use pt_disks::NoDevice;
+pub use pt_disks::OpenError;
+pub use pt_disks::Store;
+pub use pt_disks::StoreDisk;
+pub use pt_disks::device_sector_size;
+pub use pt_disks::in_memory::CrashDisk;
+pub use pt_disks::in_memory::MemDisk;
+pub use pt_disks::open_plain;
+pub use pt_edit::Code;
+pub use pt_edit::Edit;
+pub use pt_edit::EditError;
+pub use pt_edit::End;
+pub use pt_edit::Refusal;
+pub use pt_edit::edit;
+pub use pt_edit::free_blocks;
+pub use pt_edit::guids_for;
+pub use pt_edit::parse_edit;
+pub use pt_edit::space::Run;
+pub use pt_guid::Guid;
+pub use pt_guid::GuidError;
+pub use pt_guid::code_of_type;
+pub use pt_guid::fresh;
+pub use pt_guid::parse as parse_guid;
+pub use pt_guid::type_of_code;
+pub use pt_guid::type_of_record;
+pub use pt_layout::Body;
+pub use pt_layout::Ebrs;
+pub use pt_layout::Finding;
+pub use pt_layout::Kind;
+pub use pt_layout::Labelled;
+pub use pt_layout::Labels;
+pub use pt_layout::Layout;
+pub use pt_layout::Member;
+pub use pt_layout::NoTable;
+pub use pt_layout::Owner;
+pub use pt_layout::Path;
+pub use pt_layout::Row;
+pub use pt_layout::Rows;
+pub use pt_layout::SideError;
+pub use pt_layout::Source;
+pub use pt_layout::Trace;
+pub use pt_layout::Verdict;
+pub use pt_layout::VerifyError;
+pub use pt_layout::is_owned;
+pub use pt_layout::is_table;
+pub use pt_layout::locate;
+pub use pt_layout::owner;
+pub use pt_layout::parse_path;
+pub use pt_layout::recover;
+pub use pt_layout::recover_from;
+pub use pt_layout::recover_traced;
+pub use pt_layout::unsound;
+pub use pt_layout::verify;
+pub use pt_plan::After;
+pub use pt_plan::CommitError;
+pub use pt_plan::LikeError;
+pub use pt_plan::PlanError;
+pub use pt_plan::Primary;
+pub use pt_plan::RepairError;
+pub use pt_plan::Wanted;
+pub use pt_plan::apply_checked;
+pub use pt_plan::commit;
+pub use pt_plan::commit_layout;
+pub use pt_plan::commit_like;
+pub use pt_plan::commit_like_by;
+pub use pt_plan::commit_wanted;
+pub use pt_plan::layout_after;
+pub use pt_plan::make_plan;
+pub use pt_plan::make_plan_by;
+pub use pt_plan::plan_for;
+pub use pt_plan::plan_for_layout;
+pub use pt_plan::plan_for_repair;
+pub use pt_plan::plan_for_repair_by;
+pub use pt_plan::plan_like;
+pub use pt_plan::plan_like_by;
+pub use pt_plan::plan_wanted;
+pub use pt_plan::repair;
+pub use pt_plan::repair_by;
+pub use pt_plan::runs::Batch;
+pub use pt_plan::runs::Reply;
+pub use pt_plan::runs::session;
+pub use pt_sector::Disk;
+pub use pt_sector::Extent;
+pub use pt_sector::Fault;
+pub use pt_sector::Lba;
+pub use pt_sector::Moments;
+pub use pt_sector::Overlay;
+pub use pt_sector::ReadCache;
+pub use pt_sector::Room;
+pub use pt_sector::Sector;
+pub use pt_tables::table_text;
+pub use pt_types::EntryType;
+pub use pt_types::RecordType;
+pub use pt_types::entry_type;
+pub use pt_types::entry_type_name;
+pub use pt_types::entry_types;
+pub use pt_types::record_type;
+pub use pt_types::record_type_name;
+pub use pt_types::record_types;
+pub use pt_types::types_text;

@@ -7,8 +7,9 @@ use crate::sums::{Crc, crc32, xor16};
 use crate::{
     Access, After, Body, Code, CommitError, CrashDisk, Disk, Edit, End, Extent, Fault, FileDisk,
     Guid, InUse, Layout, Lba, MemDisk, NoDevice, NoTable, Overlay, Path, ReadCache, Room, Row,
-    Rows, Sector, Source, apply, code_of_type, commit, device_sector_size, edit, fresh, guids_for,
-    is_owned, is_table, layout_after, make_plan, parse_guid, recover, recover_traced, type_of_code,
+    Rows, Run, Sector, Source, apply, code_of_type, commit, device_sector_size, edit, entry_type,
+    entry_type_name, free_blocks, fresh, guids_for, is_owned, is_table, layout_after, make_plan,
+    parse_guid, record_type, record_type_name, recover, recover_traced, table_text, type_of_code,
     type_of_record, unsound,
 };
 use std::alloc::Global;
@@ -31,6 +32,10 @@ fn words(alloc: Global) -> Result<Vec<Edit>, Fail> {
         code: Some(Code::Four(0x8300)),
     })?;
     Ok(edits)
+}
+
+fn run(first: u128, last: u128) -> Run {
+    Run { first, last }
 }
 
 fn guids() -> [Guid; 2] {
@@ -59,6 +64,8 @@ fn a_layout_and_its_sectors(rt: HostRuntime) -> Result<(), Fail> {
     assert!(rt; is_table::<512>(&layout, Lba(33)) && !is_table::<512>(&layout, Lba(2048)));
     assert!(rt; is_owned::<512>(&layout, Lba(2048)) && !is_owned::<512>(&layout, Lba(33)));
     assert!(rt; unsound::<512>(rt.alloc(), &layout)? == None);
+    let free = free_blocks(rt.alloc(), &layout)?;
+    assert!(rt; free.as_slice() == [run(34, 2047), run(2148, 4062)].as_slice());
     let linux = type_of_code(0x8300);
     match &layout.body {
         Body::Gpt(table) => match table.entries.get(0) {
@@ -154,6 +161,21 @@ fn a_plan_over_an_overlay(rt: HostRuntime) -> Result<(), Fail> {
     let cache_room = Room::for_cache(rt.alloc())?;
     let mut cache = ReadCache::new(&mut disk, cache_room);
     assert!(rt; recover(rt.alloc(), &mut cache)?.same(&old));
+    Ok(())
+}
+
+#[test]
+fn texts(rt: HostRuntime) -> Result<(), Fail> {
+    let mut disk = gpt_disk(rt.alloc())?;
+    let layout = recover(rt.alloc(), &mut disk)?;
+    let text = table_text::<512>(rt.alloc(), "disk", &layout)?;
+    assert!(rt; text.as_str().contains("\"node\": \"disk1\""));
+    assert!(rt; text.as_str().contains("\"type_name\": \"linux-generic\""));
+    let lvm = parse_guid("e6d6d379-f507-44c2-a23c-238f2a3df928")?;
+    assert!(rt; entry_type("lvm") == Some(lvm) && entry_type("8E00") == Some(lvm));
+    assert!(rt; entry_type_name(&lvm) == Some("lvm"));
+    assert!(rt; record_type("5") == Some(0x05) && record_type("swap") == Some(0x82));
+    assert!(rt; record_type_name(0xEE).is_none());
     Ok(())
 }
 

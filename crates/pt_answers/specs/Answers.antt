@@ -1,5 +1,5 @@
 -- What each subcommand answers, by what the library's call gave.
-use Rattle.std.specs.Prelude.{◌≡◌, ◌≢◌, ◌⊎◌, ℕ, List, Option, Some, None, Result, Ok, Err, String, codes, IsSome, string_bytes}
+use Rattle.std.specs.Prelude.{◌≡◌, ◌≢◌, ◌⊎◌, ℕ, List, Option, Some, None, Result, Ok, Err, Vec, String, codes, IsSome, string_bytes}
 use Rattle.std.specs.declared.alloc.Global.{Global}
 use Rattle.pt_sector.specs.Sectors.{Sectors, Writes}
 use Rattle.pt_sector.specs.Device.{Told}
@@ -17,6 +17,9 @@ use Rattle.pt_recover.specs.FromSides.{SideGives, SideGivesNone}
 use Rattle.pt_recover.specs.declared.side.SideError.{SideError}
 use Rattle.pt_layout.specs.Healthy.{VerdictIs}
 use Rattle.pt_layout.specs.declared.sound.finding.Verdict.{Verdict}
+use Rattle.pt_edit.specs.Free.{free_area}
+use Rattle.pt_edit.specs.Space.{AreBlocks}
+use Rattle.pt_edit.specs.declared.space.space.Run.{Run}
 use Rattle.pt_check.specs.Answers.{Answers as AnswersPlan, Promises}
 use Rattle.pt_check.specs.declared.answer.Answer.{Answer}
 use Rattle.pt_check.specs.declared.answer.Answer.TheVariants.{No, Yes}
@@ -93,6 +96,16 @@ PlaceIs b o p k (Some at) = IsPlaceOf b o p k at.0
 abbrev pub Locates : ℕ → Sectors → Path → ℕ → Result (Option Lba) NoTable → Type 0
 Locates b d p k (Ok place) = (o : Layout) × Denotes b d (Some o) × PlaceIs b o p k place
 Locates b d p k (Err why) = TellsNothing b d why
+
+-- `free`
+abbrev pub free_reply : Result (Vec Run Global) NoTable → Result Reply Failure
+free_reply (Ok blocks) = Ok (reply.Free blocks)
+free_reply (Err why) = Err (failure.NoTable why)
+
+-- all blocks where a new entry or record of the layout may lie
+abbrev pub Frees : ℕ → Sectors → Result (Vec Run Global) NoTable → Type 0
+Frees b d (Ok blocks) = (o : Layout) × Denotes b d (Some o) × AreBlocks (free_area o) blocks.items
+Frees b d (Err why) = TellsNothing b d why
 
 -- the path and the number that two texts are; the path's fault is reported first
 abbrev pub NamesPlace : List ℕ → List ℕ → Result (Path × ℕ) Failure → Type 0

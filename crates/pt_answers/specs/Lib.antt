@@ -1,5 +1,6 @@
 pub mod Answers
 pub mod Failures
+pub mod Forms
 pub mod Images
 pub mod OnDisks
 pub mod Runs

@@ -9,6 +9,7 @@ use Rattle.pt_gpt.specs.declared.table.Side.{Side}
 use Rattle.pt_recover.specs.Denotes.{fault_in}
 use Rattle.pt_recover.specs.FromSides.{side_fault_in}
 use Rattle.pt_check.specs.Answers.{fault_in as check_fault_in}
+use Rattle.pt_cases.specs.declared.primary.Primary.{Primary as Choice}
 use Rattle.pt_plan.specs.Batches.{Commits, IsPlanned, IsRefusal, Repairs, Words}
 use Rattle.pt_plan.specs.Commits.{commit_fault_in, HidesNoFailure, SafelyStopped}
 use Rattle.pt_plan.specs.Layouts.{AfterIs, fault_in_disk, fault_in_other, BecomesLike, IsLikePlan, LikeHidesNoFailure, NotLike}
@@ -16,9 +17,9 @@ use Rattle.pt_plan.specs.Repairs.{repair_fault_in, MendHidesNoFailure}
 use Rattle.pt_report.specs.declared.reply.Reply.{Reply}
 use Rattle.pt_answers.specs.declared.failure.Failure.{Failure}
 use Rattle.pt_answers.specs.Failures.{commit_failure, like_failure}
-use Rattle.pt_answers.specs.Answers.{Answers, Applies, Checks, GivesAlone, Locates, Plans, Recovers, Verifies}
-use Rattle.pt_answers.specs.Answers.{adopt_reply, after_reply, apply_reply, check_reply, copy_reply, edit_reply, locate_reply, repair_reply}
-use Rattle.pt_answers.specs.Answers.{show_reply, verify_reply}
+use Rattle.pt_answers.specs.Answers.{Answers, Applies, Checks, Frees, GivesAlone, Locates, Plans, Recovers, Verifies}
+use Rattle.pt_answers.specs.Answers.{adopt_reply, after_reply, apply_reply, check_reply, copy_reply, edit_reply, free_reply, locate_reply}
+use Rattle.pt_answers.specs.Answers.{repair_reply, show_reply, verify_reply}
 
 -- `show`: what the disk denotes, or why nothing
 abbrev pub ShowsDisk : {D B : _} → Ghosts D B → D → D → Result Reply Failure → Type 0
@@ -49,22 +50,27 @@ LocatesOn {D} {B} g path k old new answer = OnlyReads g old new
     × Answers locate_reply (λ r. Blames fault_in r (g.faults old) (g.faults new)
     × (g.tells → Locates B (g.told old).seen path k r)) answer
 
+-- `free`: the blocks where a new partition may lie
+abbrev pub FreesOn : {D B : _} → Ghosts D B → D → D → Result Reply Failure → Type 0
+FreesOn {D} {B} g old new answer = OnlyReads g old new × Answers free_reply (λ r. Blames fault_in r (g.faults old) (g.faults new)
+    × (g.tells → Frees B (g.told old).seen r)) answer
+
 -- the disk is the same one, with as many sectors
 abbrev pub IsSameDisk : {D B : _} → Ghosts D B → D → D → Type 0
 IsSameDisk g old new = (g.count new ≡ g.count old) × (g.name new ≡ g.name old)
 
--- `edit`: the words are committed, or what a refusal or a failure left
-abbrev pub EditsDisk : {D B : _} → Ghosts D B → Words → D → D → Result Reply Failure → Type 0
-EditsDisk {D} {B} g words old new answer = IsSameDisk g old new
+-- `edit`, by what becomes of the primary copy: the words are committed, or what a refusal or a failure left
+abbrev pub EditsDisk : {D B : _} → Choice → Ghosts D B → Words → D → D → Result Reply Failure → Type 0
+EditsDisk {D} {B} primary g words old new answer = IsSameDisk g old new
     × Answers edit_reply (λ r. Blames commit_fault_in r (g.faults old) (g.faults new) × IfErr r HidesNoFailure
-    × (g.tells → Commits B (g.count old) words r (g.told old) (g.told new))) answer
+    × (g.tells → Commits primary B (g.count old) words r (g.told old) (g.told new))) answer
 
 -- `plan`: the text of the plan of these words, or why there is none
-abbrev pub PlansOn : {D B : _} → Ghosts D B → Words → D → D → Result Reply Failure → Type 0
-PlansOn {D} {B} g words old new answer = OnlyReads g old new × Plans B
-    (λ phases. (g.faults new ≡ g.faults old) × (g.tells → IsPlanned B (g.count old) words (g.told old).seen phases))
+abbrev pub PlansOn : {D B : _} → Choice → Ghosts D B → Words → D → D → Result Reply Failure → Type 0
+PlansOn {D} {B} primary g words old new answer = OnlyReads g old new × Plans B
+    (λ phases. (g.faults new ≡ g.faults old) × (g.tells → IsPlanned primary B (g.count old) words (g.told old).seen phases))
     (λ error. (g.faults new ≡ with_fault (g.faults old) (commit_fault_in error))
-    × (g.tells → IsRefusal B (g.count old) words (g.told old).seen error))
+    × (g.tells → IsRefusal primary B (g.count old) words (g.told old).seen error))
     commit_failure answer
 
 -- `check`: the checker's answer to the plan with these phases
@@ -81,24 +87,24 @@ AppliesTo {D} {B} g phases old new answer = IsSameDisk g old new
     × (g.tells → LeavesOnly (g.told old) (g.told new) (SafelyStopped B phases (g.told old).seen))
 
 -- `repair`: the disk is healthy and denotes what it did, or what a refusal or a failure left
-abbrev pub RepairsDisk : {D B : _} → Ghosts D B → D → D → Result Reply Failure → Type 0
-RepairsDisk {D} {B} g old new answer = IsSameDisk g old new
+abbrev pub RepairsDisk : {D B : _} → Choice → Ghosts D B → D → D → Result Reply Failure → Type 0
+RepairsDisk {D} {B} primary g old new answer = IsSameDisk g old new
     × Answers repair_reply (λ r. Blames repair_fault_in r (g.faults old) (g.faults new) × IfErr r MendHidesNoFailure
-    × (g.tells → Repairs B (g.count old) r (g.told old) (g.told new))) answer
+    × (g.tells → Repairs primary B (g.count old) r (g.told old) (g.told new))) answer
 
 -- `adopt`: the disk denotes what the other one does, which is only read; or what a refusal or a failure left
-abbrev pub AdoptsFrom : {D E B : _} → Ghosts D B → Ghosts E B → D → D → E → E → Result Reply Failure → Type 0
-AdoptsFrom {D} {E} {B} g h old new other_old other_new answer = IsSameDisk g old new × OnlyReads h other_old other_new
+abbrev pub AdoptsFrom : {D E B : _} → Choice → Ghosts D B → Ghosts E B → D → D → E → E → Result Reply Failure → Type 0
+AdoptsFrom {D} {E} {B} primary g h old new other_old other_new answer = IsSameDisk g old new × OnlyReads h other_old other_new
     × Answers adopt_reply (λ r. Blames fault_in_disk r (g.faults old) (g.faults new)
     × Blames fault_in_other r (h.faults other_old) (h.faults other_new) × IfErr r LikeHidesNoFailure
-    × (g.tells → h.tells → BecomesLike B (h.told other_old).seen r (g.told old) (g.told new))) answer
+    × (g.tells → h.tells → BecomesLike primary B (h.told other_old).seen r (g.told old) (g.told new))) answer
 
 -- `adopt --plan`: the text of the plan for that, or why there is none
-abbrev pub PlansAdopting : {D E B : _} → Ghosts D B → Ghosts E B → D → D → E → E → Result Reply Failure → Type 0
-PlansAdopting {D} {E} {B} g h old new other_old other_new answer = OnlyReads g old new × OnlyReads h other_old other_new × Plans B
+abbrev pub PlansAdopting : {D E B : _} → Choice → Ghosts D B → Ghosts E B → D → D → E → E → Result Reply Failure → Type 0
+PlansAdopting {D} {E} {B} primary g h old new other_old other_new answer = OnlyReads g old new × OnlyReads h other_old other_new × Plans B
     (λ phases. (g.faults new ≡ g.faults old) × (h.faults other_new ≡ h.faults other_old)
-    × (g.tells → h.tells → IsLikePlan B (h.told other_old).seen (g.told old).seen phases))
+    × (g.tells → h.tells → IsLikePlan primary B (h.told other_old).seen (g.told old).seen phases))
     (λ error. (g.faults new ≡ with_fault (g.faults old) (fault_in_disk error))
     × (h.faults other_new ≡ with_fault (h.faults other_old) (fault_in_other error))
-    × (g.tells → h.tells → NotLike B (h.told other_old).seen (g.told old).seen error))
+    × (g.tells → h.tells → NotLike primary B (h.told other_old).seen (g.told old).seen error))
     like_failure answer

@@ -13,8 +13,13 @@ use Rattle.pt_disks.specs.declared.device.NoDevice.TheVariants as opening
 use Rattle.pt_disks.specs.declared.open.Access.{Access}
 use Rattle.pt_disks.specs.declared.open.Access.TheVariants.{Read, Write, WriteUnlocked}
 use Rattle.pt_line.specs.Lines.{Means}
+use Rattle.pt_cases.specs.declared.primary.Primary.{Primary as Choice}
+use Rattle.pt_cases.specs.declared.primary.Primary.TheVariants as choice
+use Rattle.pt_line.specs.declared.line.PrimaryCopy.{PrimaryCopy}
+use Rattle.pt_line.specs.declared.line.PrimaryCopy.TheVariants.{ByTable, Kept}
 use Rattle.pt_line.specs.declared.line.Adoption.{Adoption}
 use Rattle.pt_line.specs.declared.line.Adoption.TheVariants.{Planned, Written}
+use Rattle.pt_line.specs.declared.line.Form.{Form}
 use Rattle.pt_line.specs.declared.line.InUse.TheVariants.{Refused}
 use Rattle.pt_line.specs.declared.line.Job.{Job}
 use Rattle.pt_line.specs.declared.line.Job.TheVariants as job
@@ -31,8 +36,9 @@ use Rattle.pt_report.specs.declared.reply.Reply.{Reply}
 use Rattle.pt_report.specs.declared.reply.Reply.TheVariants as reply
 use Rattle.pt_answers.specs.Answers.{NamesCopy, NamesPlace}
 use Rattle.pt_answers.specs.Failures.{line_failure}
+use Rattle.pt_answers.specs.Forms.{InForm, IsTypes}
 use Rattle.pt_answers.specs.Images.{Call, Doing, OnImage, OnImages, Sized, Then, WithPlan}
-use Rattle.pt_answers.specs.OnDisks.{AdoptsFrom, AppliesTo, ChecksOn, EditsDisk, LocatesOn, PlansAdopting, PlansOn, RepairsDisk}
+use Rattle.pt_answers.specs.OnDisks.{AdoptsFrom, AppliesTo, ChecksOn, EditsDisk, FreesOn, LocatesOn, PlansAdopting, PlansOn, RepairsDisk}
 use Rattle.pt_answers.specs.OnDisks.{ShowsAfter, ShowsCopy, ShowsDisk}
 use Rattle.pt_answers.specs.OnDisks.{VerifiesDisk}
 use Rattle.pt_answers.specs.Statuses.{IsOfOutput}
@@ -50,6 +56,11 @@ use Rattle.pt_answers.specs.declared.words.Wanted.{Wanted}
 abbrev pub writing : LockedBy → Access
 writing Ptab = Write
 writing Caller = WriteUnlocked
+
+-- what becomes of the primary copy
+abbrev pub choice_of : PrimaryCopy → Choice
+choice_of ByTable = choice.Zeroed
+choice_of Kept = choice.Kept
 
 -- the path and the number of `locate` are read before its image is opened
 abbrev pub WithPlace : {C : Type 0} → List ℕ → List ℕ → (Path → ℕ → Doing C) → Doing C
@@ -71,12 +82,12 @@ abbrev pub other_as : Medium → Opening
 other_as medium = record { medium = medium; in_use = Refused }
 
 -- the table of another image is taken over, or planned to be
-abbrev pub RunsAdoption : {D : _} {T : Type 0} {B : _} → Ghosts D B → List ℕ → Opening → List ℕ → Medium → Adoption → LockedBy
-    → Doing (Call D T)
-RunsAdoption g image opening other medium Written locked_by old new answer =
-    OnImages image opening (writing locked_by) other (other_as medium) Read (AdoptsFrom g g) old new answer
-RunsAdoption g image opening other medium Planned locked_by old new answer =
-    OnImages image opening Read other (other_as medium) Read (PlansAdopting g g) old new answer
+abbrev pub RunsAdoption : {D : _} {T : Type 0} {B : _} → Ghosts D B → List ℕ → Opening → List ℕ → Medium → Adoption → PrimaryCopy
+    → LockedBy → Doing (Call D T)
+RunsAdoption g image opening other medium Written primary locked_by old new answer =
+    OnImages image opening (writing locked_by) other (other_as medium) Read (AdoptsFrom (choice_of primary) g g) old new answer
+RunsAdoption g image opening other medium Planned primary locked_by old new answer =
+    OnImages image opening Read other (other_as medium) Read (PlansAdopting (choice_of primary) g g) old new answer
 
 -- the table of an image is shown, or the one that the plan in a file would leave, or that of one copy of a GPT
 abbrev pub RunsShow : {D : _} {T : Type 0} {B : _} → Ghosts D B → (T → Option (List ℕ)) → Opening → List ℕ → Option (String Global)
@@ -87,44 +98,55 @@ RunsShow g remaining opening image None None old new answer = OnImage image open
 RunsShow {D} {T} {B} g remaining opening image (Some file) None old new answer =
     WithPlan B remaining (string_bytes file) (λ plan. OnImage image opening Read (ShowsAfter g (phases_of plan))) old new answer
 
+-- and what is found is answered in a form
+abbrev pub ShowsAs : {D : _} {T : Type 0} {B : _} → Ghosts D B → (T → Option (List ℕ)) → Opening → List ℕ → Option (String Global)
+    → Option (String Global) → Form → Doing (Call D T)
+ShowsAs {D} {T} {B} g remaining opening image after copy form old new answer =
+    (found : Result Reply Failure) × RunsShow g remaining opening image after copy old new found × InForm B image form found answer
+
 -- what is done for a job: `g` are the ghosts of the disks, and `remaining` the bytes of the file of a plan
 abbrev pub RunsJob : {D : _} {T : Type 0} {B : _} → Ghosts D B → (T → Option (List ℕ)) → Opening → Job → Doing (Call D T)
 RunsJob g remaining opening (job.Help text) old new answer = (new ≡ old) × (answer ≡ Ok (reply.Text text))
-RunsJob g remaining opening (job.Show image after copy) old new answer =
-    RunsShow g remaining opening (string_bytes image) after copy old new answer
+RunsJob g remaining opening (job.Show image after copy form) old new answer =
+    ShowsAs g remaining opening (string_bytes image) after copy form old new answer
 RunsJob g remaining opening (job.Verify image) old new answer =
     OnImage (string_bytes image) opening Read (VerifiesDisk g) old new answer
 RunsJob g remaining opening (job.Locate image path place) old new answer = WithPlace (string_bytes path) (string_bytes place)
     (λ p k. OnImage (string_bytes image) opening Read (LocatesOn g p k)) old new answer
-RunsJob g remaining opening (job.Edit image fresh words locked_by) old new answer =
+RunsJob g remaining opening (job.Free image) old new answer =
+    OnImage (string_bytes image) opening Read (FreesOn g) old new answer
+RunsJob g remaining opening job.Types old new answer = (new ≡ old) × IsTypes answer
+RunsJob g remaining opening (job.Edit image fresh words primary locked_by) old new answer =
     WithWords (option_map string_bytes fresh) (map string_bytes words.items)
-    (λ wanted. OnImage (string_bytes image) opening (writing locked_by) (EditsDisk g (words_of wanted))) old new answer
-RunsJob g remaining opening (job.Plan image fresh words) old new answer =
+    (λ wanted. OnImage (string_bytes image) opening (writing locked_by) (EditsDisk (choice_of primary) g (words_of wanted))) old new answer
+RunsJob g remaining opening (job.Plan image fresh words primary) old new answer =
     WithWords (option_map string_bytes fresh) (map string_bytes words.items)
-    (λ wanted. OnImage (string_bytes image) opening Read (PlansOn g (words_of wanted))) old new answer
+    (λ wanted. OnImage (string_bytes image) opening Read (PlansOn (choice_of primary) g (words_of wanted))) old new answer
 RunsJob {D} {T} {B} g remaining opening (job.Check image file) old new answer =
     WithPlan B remaining (string_bytes file) (λ plan. OnImage (string_bytes image) opening Read (ChecksOn g (phases_of plan))) old new
     answer
 RunsJob {D} {T} {B} g remaining opening (job.Apply image file locked_by) old new answer = WithPlan B remaining (string_bytes file)
     (λ plan. OnImage (string_bytes image) opening (writing locked_by) (AppliesTo g (phases_of plan))) old new answer
-RunsJob g remaining opening (job.Repair image locked_by) old new answer =
-    OnImage (string_bytes image) opening (writing locked_by) (RepairsDisk g) old new answer
-RunsJob g remaining opening (job.Adopt image other medium adoption locked_by) old new answer =
-    RunsAdoption g (string_bytes image) opening (string_bytes other) medium adoption locked_by old new answer
+RunsJob g remaining opening (job.Repair image primary locked_by) old new answer =
+    OnImage (string_bytes image) opening (writing locked_by) (RepairsDisk (choice_of primary) g) old new answer
+RunsJob g remaining opening (job.Adopt image other medium adoption primary locked_by) old new answer =
+    RunsAdoption g (string_bytes image) opening (string_bytes other) medium adoption primary locked_by old new answer
 
 -- ## The size of a sector.
 
 abbrev pub image_of : Job → Option (List ℕ)
 image_of (job.Help text) = None
-image_of (job.Show image after copy) = Some (string_bytes image)
+image_of (job.Show image after copy form) = Some (string_bytes image)
 image_of (job.Verify image) = Some (string_bytes image)
 image_of (job.Locate image path place) = Some (string_bytes image)
-image_of (job.Edit image fresh words locked_by) = Some (string_bytes image)
-image_of (job.Plan image fresh words) = Some (string_bytes image)
+image_of (job.Free image) = Some (string_bytes image)
+image_of job.Types = None
+image_of (job.Edit image fresh words primary locked_by) = Some (string_bytes image)
+image_of (job.Plan image fresh words primary) = Some (string_bytes image)
 image_of (job.Check image file) = Some (string_bytes image)
 image_of (job.Apply image file locked_by) = Some (string_bytes image)
-image_of (job.Repair image locked_by) = Some (string_bytes image)
-image_of (job.Adopt image other medium adoption locked_by) = Some (string_bytes image)
+image_of (job.Repair image primary locked_by) = Some (string_bytes image)
+image_of (job.Adopt image other medium adoption primary locked_by) = Some (string_bytes image)
 
 -- that of a device which has sectors of so many bytes: another one than 512 and 4096 is refused where the device is opened, as is one
 -- that isn't known

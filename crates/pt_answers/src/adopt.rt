@@ -5,7 +5,7 @@ ghost use Rattle.pt_answers.specs.OnDisks.{AdoptsFrom, PlansAdopting};
 
 use crate::failure::Failure;
 use crate::plan_texts::text_of_plan;
-use pt_plan::{commit_like, plan_like};
+use pt_plan::{Primary, commit_like_by, plan_like_by};
 use pt_report::Reply;
 use pt_sector::Disk;
 use std::alloc::Global;
@@ -15,11 +15,12 @@ pub fn adopt_disk<const B: usize, D: Disk<B>, E: Disk<B>>(
     alloc: Global,
     disk: &mut D,
     other: &mut E,
+    primary: Primary,
 ) -> Result<Reply, Failure>
     requires size { IsSectorSize B }
-    ensures adopts { AdoptsFrom D.Disk E.Disk disk.old disk.new other.old other.new result }
+    ensures adopts { AdoptsFrom primary D.Disk E.Disk disk.old disk.new other.old other.new result }
 {
-    commit_like::<B, D, E>(alloc, disk, other)?;
+    commit_like_by::<B, D, E>(alloc, disk, other, primary)?;
     Ok(Reply::Done)
 }
 
@@ -28,10 +29,11 @@ pub fn plan_adopting<const B: usize, D: Disk<B>, E: Disk<B>>(
     alloc: Global,
     disk: &mut D,
     other: &mut E,
+    primary: Primary,
 ) -> Result<Reply, Failure>
     requires size { IsSectorSize B }
-    ensures plans { PlansAdopting D.Disk E.Disk disk.old disk.new other.old other.new result }
+    ensures plans { PlansAdopting primary D.Disk E.Disk disk.old disk.new other.old other.new result }
 {
-    let plan = plan_like::<B, D, E>(alloc, disk, other)?;
+    let plan = plan_like_by::<B, D, E>(alloc, disk, other, primary)?;
     text_of_plan(alloc, &plan)
 }

@@ -5,14 +5,15 @@ ghost use Rattle.std.specs.Io.Buffered.{writer_buffer, writer_contents};
 ghost use Rattle.clap.specs.Walk.{texts as slice_texts};
 ghost use Rattle.pt_sector.specs.Sectors.{IsSectorSize};
 ghost use Rattle.pt_answers.specs.Images.{IsPlanAt};
-ghost use Rattle.pt_answers.specs.Runs.{Prints, RunsAdoption, RunsJob, RunsLine, RunsShow, RunsSized, RunsWords, Sizes};
+ghost use Rattle.pt_answers.specs.Runs.{Prints, RunsAdoption, RunsJob, RunsLine, RunsShow, RunsSized, RunsWords, ShowsAs, Sizes};
 ghost use Rattle.pt_answers.specs.Runs.{image_of, other_as, size_of_device};
 
 use crate::failure::Failure;
+use crate::forms::{formed, types};
 use crate::images::{Images, Opening};
 use crate::on_images::{
-    apply, check, edit, locate, plan, plan_taking, repair, show, show_planned, show_side, take,
-    verify,
+    apply, check, edit, free, locate, plan, plan_taking, repair, show, show_planned, show_side,
+    take, verify,
 };
 use crate::plan_file::plan_in;
 use crate::status::printed;
@@ -20,7 +21,9 @@ use crate::views::{copy_named, place_named};
 use crate::words::Wanted;
 use pt_apply::Plan;
 use pt_disks::NoDevice;
-use pt_line::{Adoption, InUse, Job, Line, LockedBy, Medium, SectorSize, read_line};
+use pt_line::{
+    Adoption, Form, InUse, Job, Line, LockedBy, Medium, PrimaryCopy, SectorSize, read_line,
+};
 use pt_report::{Reply, Status};
 use pt_sector::Disk;
 use std::alloc::Global;
@@ -48,15 +51,19 @@ fn adopt<const B: usize, D: Disk<B> + Drop, T: Read + Drop, I: Images<B, D, T>>(
     other: &str,
     medium: Medium,
     adoption: Adoption,
+    primary: PrimaryCopy,
     locked_by: LockedBy,
 ) -> Result<Reply, Failure>
     requires { IsSectorSize B }
-    ensures { RunsAdoption D.Disk image.now opening other.now medium adoption locked_by (I.past images.old) (I.past images.new) result }
+    ensures { RunsAdoption D.Disk image.now opening other.now medium adoption primary locked_by
+        (I.past images.old) (I.past images.new) result }
 {
     let there = as_other(medium);
     match adoption {
-        Adoption::Written => take(alloc, images, image, opening, other, there, locked_by),
-        Adoption::Planned => plan_taking(alloc, images, image, opening, other, there),
+        Adoption::Written => take(
+            alloc, images, image, opening, other, there, primary, locked_by,
+        ),
+        Adoption::Planned => plan_taking(alloc, images, image, opening, other, there, primary),
     }
 }
 
@@ -87,6 +94,23 @@ fn shown<const B: usize, D: Disk<B> + Drop, T: Read + Drop, I: Images<B, D, T>>(
     }
 }
 
+/// The same, in the form that is asked for.
+fn shown_as<const B: usize, D: Disk<B> + Drop, T: Read + Drop, I: Images<B, D, T>>(
+    alloc: Global,
+    images: &mut I,
+    image: &str,
+    opening: Opening,
+    after: Option<String>,
+    copy: Option<String>,
+    form: Form,
+) -> Result<Reply, Failure>
+    requires { IsSectorSize B }
+    ensures { ShowsAs D.Disk T.remaining opening image.now after copy form (I.past images.old) (I.past images.new) result }
+{
+    let found = shown(alloc, images, image, opening, after, copy);
+    formed::<B>(alloc, image, form, found)
+}
+
 /// What a job comes to: its answer, or why there is none. Words and plans are read before an image is opened.
 fn reply_to<const B: usize, D: Disk<B> + Drop, T: Read + Drop, I: Images<B, D, T>>(
     alloc: Global,
@@ -99,30 +123,45 @@ fn reply_to<const B: usize, D: Disk<B> + Drop, T: Read + Drop, I: Images<B, D, T
 {
     match job {
         Job::Help(text) => Ok(Reply::Text(text)),
-        Job::Show { image, after, copy } => {
-            shown(alloc, images, image.as_str(), opening, after, copy)
-        }
+        Job::Show {
+            image,
+            after,
+            copy,
+            form,
+        } => shown_as(alloc, images, image.as_str(), opening, after, copy, form),
         Job::Verify { image } => verify(alloc, images, image.as_str(), opening),
         Job::Locate { image, path, place } => {
             let (path, k) = place_named(path.as_str(), place.as_str())?;
             locate(alloc, images, image.as_str(), opening, &path, k)
         }
+        Job::Free { image } => free(alloc, images, image.as_str(), opening),
+        Job::Types => types(alloc),
         Job::Edit {
             image,
             fresh,
             words,
+            primary,
             locked_by,
         } => {
             let wanted = Wanted::read(alloc, &fresh, words.as_slice())?;
-            edit(alloc, images, image.as_str(), opening, locked_by, &wanted)
+            edit(
+                alloc,
+                images,
+                image.as_str(),
+                opening,
+                locked_by,
+                &wanted,
+                primary,
+            )
         }
         Job::Plan {
             image,
             fresh,
             words,
+            primary,
         } => {
             let wanted = Wanted::read(alloc, &fresh, words.as_slice())?;
-            plan(alloc, images, image.as_str(), opening, &wanted)
+            plan(alloc, images, image.as_str(), opening, &wanted, primary)
         }
         Job::Check { image, file } => {
             let plan = plan_at(alloc, images, file.as_str())?;
@@ -136,18 +175,17 @@ fn reply_to<const B: usize, D: Disk<B> + Drop, T: Read + Drop, I: Images<B, D, T
             let plan = plan_at(alloc, images, file.as_str())?;
             apply(alloc, images, image.as_str(), opening, locked_by, &plan)
         }
-        Job::Repair { image, locked_by } => repair(
-            alloc,
-            images,
-            image.as_str(),
-            opening,
+        Job::Repair {
+            image,
+            primary,
             locked_by,
-        ),
+        } => repair(alloc, images, image.as_str(), opening, primary, locked_by),
         Job::Adopt {
             image,
             other,
             other_medium,
             adoption,
+            primary,
             locked_by,
         } => adopt(
             alloc,
@@ -157,6 +195,7 @@ fn reply_to<const B: usize, D: Disk<B> + Drop, T: Read + Drop, I: Images<B, D, T
             other.as_str(),
             other_medium,
             adoption,
+            primary,
             locked_by,
         ),
     }
@@ -177,10 +216,11 @@ fn image_in(job: &Job) -> Option<&str>
     ensures { option_map (λ text. text.now) result ≡ image_of job.now }
 {
     match job {
-        Job::Help(_) => None,
+        Job::Help(_) | Job::Types => None,
         Job::Show { image, .. }
         | Job::Verify { image }
         | Job::Locate { image, .. }
+        | Job::Free { image }
         | Job::Edit { image, .. }
         | Job::Plan { image, .. }
         | Job::Check { image, .. }

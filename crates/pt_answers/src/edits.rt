@@ -7,7 +7,7 @@ use crate::failure::Failure;
 use crate::plan_texts::text_of_plan;
 use pt_edit::Edit;
 use pt_guid::Guid;
-use pt_plan::{commit, plan_for};
+use pt_plan::{Primary, Wanted, commit_wanted, plan_wanted};
 use pt_report::Reply;
 use pt_sector::Disk;
 use std::alloc::Global;
@@ -18,11 +18,12 @@ pub fn edit_disk<const B: usize, D: Disk<B>>(
     disk: &mut D,
     edits: &[Edit],
     guids: &[Guid],
+    primary: Primary,
 ) -> Result<Reply, Failure>
     requires size { IsSectorSize B }
-    ensures edits { EditsDisk D.Disk (record { edits = edits.now; guids = guids.now }) disk.old disk.new result }
+    ensures edits { EditsDisk primary D.Disk (record { edits = edits.now; guids = guids.now }) disk.old disk.new result }
 {
-    commit::<B, D>(alloc, disk, edits, guids)?;
+    commit_wanted::<B, D>(alloc, disk, &Wanted::Edited(edits, guids), primary)?;
     Ok(Reply::Done)
 }
 
@@ -33,10 +34,11 @@ pub fn plan_on<const B: usize, D: Disk<B>>(
     disk: &mut D,
     edits: &[Edit],
     guids: &[Guid],
+    primary: Primary,
 ) -> Result<Reply, Failure>
     requires size { IsSectorSize B }
-    ensures plans { PlansOn D.Disk (record { edits = edits.now; guids = guids.now }) disk.old disk.new result }
+    ensures plans { PlansOn primary D.Disk (record { edits = edits.now; guids = guids.now }) disk.old disk.new result }
 {
-    let plan = plan_for::<B, D>(alloc, disk, edits, guids)?;
+    let plan = plan_wanted::<B, D>(alloc, disk, &Wanted::Edited(edits, guids), primary)?;
     text_of_plan(alloc, &plan)
 }

@@ -6,6 +6,7 @@ mod adopt;
 mod command;
 mod edits;
 mod failure;
+mod forms;
 mod from_errors;
 mod images;
 mod on_images;
@@ -28,6 +29,6 @@ pub use pt_report::Status;
 pub use repair::repair_disk;
 pub use status::printed;
 pub use views::{
-    copy_named, locate_on, place_named, show_after, show_copy, show_disk, verify_disk,
+    copy_named, free_on, locate_on, place_named, show_after, show_copy, show_disk, verify_disk,
 };
 pub use words::texts_of;

@@ -5,9 +5,10 @@ ghost use Rattle.pt_sector.specs.Sectors.{IsSectorSize};
 ghost use Rattle.pt_apply.specs.Plans.{phases_of};
 ghost use Rattle.pt_disks.specs.declared.open.Access.TheVariants.{Read as Reading};
 ghost use Rattle.pt_answers.specs.Images.{OnImage, OnImages};
-ghost use Rattle.pt_answers.specs.OnDisks.{AdoptsFrom, AppliesTo, ChecksOn, EditsDisk, LocatesOn, PlansAdopting, PlansOn, RepairsDisk};
+ghost use Rattle.pt_answers.specs.OnDisks.{AdoptsFrom, AppliesTo, ChecksOn, EditsDisk, FreesOn, LocatesOn};
+ghost use Rattle.pt_answers.specs.OnDisks.{PlansAdopting, PlansOn, RepairsDisk};
 ghost use Rattle.pt_answers.specs.OnDisks.{ShowsAfter, ShowsCopy, ShowsDisk, VerifiesDisk};
-ghost use Rattle.pt_answers.specs.Runs.{writing};
+ghost use Rattle.pt_answers.specs.Runs.{choice_of, writing};
 ghost use Rattle.pt_answers.specs.Wanted.{words_of};
 
 use crate::adopt::{adopt_disk, plan_adopting};
@@ -16,13 +17,14 @@ use crate::failure::Failure;
 use crate::images::{Images, Opening};
 use crate::plans::{apply_disk, check_on};
 use crate::repair::repair_disk;
-use crate::views::{locate_on, show_after, show_copy, show_disk, verify_disk};
+use crate::views::{free_on, locate_on, show_after, show_copy, show_disk, verify_disk};
 use crate::words::Wanted;
 use pt_apply::Plan;
 use pt_disks::Access;
 use pt_gpt::Side;
 use pt_layout::Path;
-use pt_line::LockedBy;
+use pt_line::{LockedBy, PrimaryCopy};
+use pt_plan::Primary;
 use pt_report::Reply;
 use pt_sector::Disk;
 use std::alloc::Global;
@@ -35,6 +37,16 @@ fn access_for(locked_by: LockedBy) -> Access
     match locked_by {
         LockedBy::Ptab => Access::Write,
         LockedBy::Caller => Access::WriteUnlocked,
+    }
+}
+
+/// What becomes of the primary copy.
+fn primary_of(copy: PrimaryCopy) -> Primary
+    ensures { result ≡ choice_of copy }
+{
+    match copy {
+        PrimaryCopy::ByTable => Primary::Zeroed,
+        PrimaryCopy::Kept => Primary::Kept,
     }
 }
 
@@ -127,6 +139,23 @@ pub(crate) fn locate<const B: usize, D: Disk<B> + Drop, T: Read + Drop, I: Image
     answer
 }
 
+/// The blocks of sectors where a new partition may lie on an image.
+pub(crate) fn free<const B: usize, D: Disk<B> + Drop, T: Read + Drop, I: Images<B, D, T>>(
+    alloc: Global,
+    images: &mut I,
+    image: &str,
+    opening: Opening,
+) -> Result<Reply, Failure>
+    requires { IsSectorSize B }
+    ensures { OnImage image.now opening Reading (FreesOn D.Disk)
+        (I.past images.old) (I.past images.new) result }
+{
+    let mut disk = images.open(image, opening, Access::Read)?;
+    let answer = free_on::<B, D>(alloc, &mut disk);
+    images.close(disk);
+    answer
+}
+
 /// Edits an image by words, as one commit.
 pub(crate) fn edit<const B: usize, D: Disk<B> + Drop, T: Read + Drop, I: Images<B, D, T>>(
     alloc: Global,
@@ -135,9 +164,10 @@ pub(crate) fn edit<const B: usize, D: Disk<B> + Drop, T: Read + Drop, I: Images<
     opening: Opening,
     locked_by: LockedBy,
     wanted: &Wanted,
+    primary: PrimaryCopy,
 ) -> Result<Reply, Failure>
     requires { IsSectorSize B }
-    ensures { OnImage image.now opening (writing locked_by) (EditsDisk D.Disk (words_of wanted.now))
+    ensures { OnImage image.now opening (writing locked_by) (EditsDisk (choice_of primary) D.Disk (words_of wanted.now))
         (I.past images.old) (I.past images.new) result }
 {
     let mut disk = images.open(image, opening, access_for(locked_by))?;
@@ -146,6 +176,7 @@ pub(crate) fn edit<const B: usize, D: Disk<B> + Drop, T: Read + Drop, I: Images<
         &mut disk,
         wanted.edits.as_slice(),
         wanted.guids.as_slice(),
+        primary_of(primary),
     );
     images.close(disk);
     answer
@@ -158,9 +189,10 @@ pub(crate) fn plan<const B: usize, D: Disk<B> + Drop, T: Read + Drop, I: Images<
     image: &str,
     opening: Opening,
     wanted: &Wanted,
+    primary: PrimaryCopy,
 ) -> Result<Reply, Failure>
     requires { IsSectorSize B }
-    ensures { OnImage image.now opening Reading (PlansOn D.Disk (words_of wanted.now))
+    ensures { OnImage image.now opening Reading (PlansOn (choice_of primary) D.Disk (words_of wanted.now))
         (I.past images.old) (I.past images.new) result }
 {
     let mut disk = images.open(image, opening, Access::Read)?;
@@ -169,6 +201,7 @@ pub(crate) fn plan<const B: usize, D: Disk<B> + Drop, T: Read + Drop, I: Images<
         &mut disk,
         wanted.edits.as_slice(),
         wanted.guids.as_slice(),
+        primary_of(primary),
     );
     images.close(disk);
     answer
@@ -217,14 +250,15 @@ pub(crate) fn repair<const B: usize, D: Disk<B> + Drop, T: Read + Drop, I: Image
     images: &mut I,
     image: &str,
     opening: Opening,
+    primary: PrimaryCopy,
     locked_by: LockedBy,
 ) -> Result<Reply, Failure>
     requires { IsSectorSize B }
-    ensures { OnImage image.now opening (writing locked_by) (RepairsDisk D.Disk)
+    ensures { OnImage image.now opening (writing locked_by) (RepairsDisk (choice_of primary) D.Disk)
         (I.past images.old) (I.past images.new) result }
 {
     let mut disk = images.open(image, opening, access_for(locked_by))?;
-    let answer = repair_disk::<B, D>(alloc, &mut disk);
+    let answer = repair_disk::<B, D>(alloc, &mut disk, primary_of(primary));
     images.close(disk);
     answer
 }
@@ -237,11 +271,12 @@ pub(crate) fn take<const B: usize, D: Disk<B> + Drop, T: Read + Drop, I: Images<
     opening: Opening,
     other: &str,
     other_opening: Opening,
+    primary: PrimaryCopy,
     locked_by: LockedBy,
 ) -> Result<Reply, Failure>
     requires { IsSectorSize B }
     ensures { OnImages image.now opening (writing locked_by) other.now other_opening Reading
-        (AdoptsFrom D.Disk D.Disk) (I.past images.old) (I.past images.new) result }
+        (AdoptsFrom (choice_of primary) D.Disk D.Disk) (I.past images.old) (I.past images.new) result }
 {
     let mut other = match images.open(other, other_opening, Access::Read) {
         Ok(other) => other,
@@ -254,7 +289,7 @@ pub(crate) fn take<const B: usize, D: Disk<B> + Drop, T: Read + Drop, I: Images<
             return Err(Failure::Opening(why));
         }
     };
-    let answer = adopt_disk::<B, D, D>(alloc, &mut disk, &mut other);
+    let answer = adopt_disk::<B, D, D>(alloc, &mut disk, &mut other, primary_of(primary));
     images.close(disk);
     images.close(other);
     answer
@@ -268,10 +303,11 @@ pub(crate) fn plan_taking<const B: usize, D: Disk<B> + Drop, T: Read + Drop, I: 
     opening: Opening,
     other: &str,
     other_opening: Opening,
+    primary: PrimaryCopy,
 ) -> Result<Reply, Failure>
     requires { IsSectorSize B }
     ensures { OnImages image.now opening Reading other.now other_opening Reading
-        (PlansAdopting D.Disk D.Disk) (I.past images.old) (I.past images.new) result }
+        (PlansAdopting (choice_of primary) D.Disk D.Disk) (I.past images.old) (I.past images.new) result }
 {
     let mut other = match images.open(other, other_opening, Access::Read) {
         Ok(other) => other,
@@ -284,7 +320,7 @@ pub(crate) fn plan_taking<const B: usize, D: Disk<B> + Drop, T: Read + Drop, I: 
             return Err(Failure::Opening(why));
         }
     };
-    let answer = plan_adopting::<B, D, D>(alloc, &mut disk, &mut other);
+    let answer = plan_adopting::<B, D, D>(alloc, &mut disk, &mut other, primary_of(primary));
     images.close(disk);
     images.close(other);
     answer

@@ -1,4 +1,4 @@
-//! `show`, `verify` and `locate`.
+//! `show`, `verify`, `locate` and `free`.
 
 ghost use Rattle.std.specs.Prelude.{◌≡◌};
 ghost use Rattle.pt_sector.specs.Device.{Blames};
@@ -6,12 +6,14 @@ ghost use Rattle.pt_sector.specs.Overlays.{OnlyReads};
 ghost use Rattle.pt_sector.specs.Sectors.{IsSectorSize};
 ghost use Rattle.pt_recover.specs.Denotes.{fault_in};
 ghost use Rattle.pt_apply.specs.Plans.{phases_of};
-ghost use Rattle.pt_answers.specs.Answers.{Locates, NamesCopy, NamesPlace, PlaceIs};
-ghost use Rattle.pt_answers.specs.OnDisks.{LocatesOn, ShowsAfter, ShowsCopy, ShowsDisk, VerifiesDisk};
+ghost use Rattle.pt_answers.specs.Answers.{Frees, Locates, NamesCopy, NamesPlace, PlaceIs};
+ghost use Rattle.pt_answers.specs.OnDisks.{FreesOn, LocatesOn, ShowsAfter, ShowsCopy, ShowsDisk, VerifiesDisk};
 
 use crate::failure::Failure;
 use pt_apply::Plan;
 use pt_check::Answer;
+use pt_edit::free_blocks;
+use pt_edit::space::Run;
 use pt_gpt::Side;
 use pt_layout::{
     Layout, NoTable, Path, locate, parse_number, parse_path, recover, recover_from, verify,
@@ -106,6 +108,26 @@ fn place_in<const B: usize>(layout: &Layout, path: &Path, k: u64) -> Option<Lba>
     ensures { PlaceIs B layout.now path.now k result }
 {
     locate::<B>(layout, path, k)
+}
+
+/// The blocks of sectors where a new partition may lie on a disk.
+pub fn free_on<const B: usize, D: Disk<B>>(alloc: Global, disk: &mut D) -> Result<Reply, Failure>
+    requires size { IsSectorSize B }
+    ensures frees { FreesOn D.Disk disk.old disk.new result }
+{
+    let blocks = blocks_on::<B, D>(alloc, disk)?;
+    Ok(Reply::Free(blocks))
+}
+
+// Those blocks, or why the disk denotes nothing.
+fn blocks_on<const B: usize, D: Disk<B>>(alloc: Global, disk: &mut D) -> Result<Vec<Run>, NoTable>
+    requires size { IsSectorSize B }
+    ensures same { OnlyReads D.Disk disk.old disk.new }
+    ensures blames { Blames fault_in result (D.faults disk.old) (D.faults disk.new) }
+    ensures frees { D.tells → Frees B (D.told disk.old).seen result }
+{
+    let layout = recover::<B, D>(alloc, disk)?;
+    Ok(free_blocks(alloc, &layout)?)
 }
 
 /// The copy that a text names, `primary` or `backup`. With a plan's file none is named: what a plan leaves is a table, and no copy.

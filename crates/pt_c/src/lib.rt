@@ -26,7 +26,7 @@ use pt_sector::Moments;
 use std::alloc::Global;
 
 /// The number of this interface: a header's PTAB_VERSION must be equal.
-const VERSION: i32 = 1;
+const VERSION: i32 = 2;
 
 /// Lists the partitions of what the disk denotes.
 #[unsafe(no_mangle)]
@@ -224,7 +224,7 @@ pub extern "C" fn ptab_type_code(guid: &GuidBytes) -> i32
 /// The number of this interface.
 #[unsafe(no_mangle)]
 pub extern "C" fn ptab_version() -> i32
-    ensures { result ≡ pos 1 }
+    ensures { result ≡ pos 2 }
 {
     VERSION
 }

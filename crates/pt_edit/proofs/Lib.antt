@@ -1,5 +1,6 @@
 pub mod Alike
 pub mod AlikeLemmas
+pub mod AllBlocks
 pub mod Answering
 pub mod Apart
 pub mod BlockEnds

@@ -13,7 +13,7 @@ use Rattle.pt_edit.specs.inner.Space.{Best}
 in_permutation : (xs ys : List Run) (k : ℕ) → IsPermutation xs ys → IsInRuns xs k → IsInRuns ys k
 in_permutation xs ys k moved is = (is.0, Contains-permutation xs ys is.0 moved is.1, is.2)
 
-same_sectors : (xs ys : List Run) → IsPermutation xs ys → SameSectors xs ys
+pub same_sectors : (xs ys : List Run) → IsPermutation xs ys → SameSectors xs ys
 same_sectors xs ys moved = record {
   there = λ k is. in_permutation xs ys k moved is;
   back = λ k is. in_permutation ys xs k (IsPermutation-sym xs ys moved) is;

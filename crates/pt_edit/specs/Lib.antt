@@ -2,6 +2,7 @@ pub mod Chains
 pub mod Converted
 pub mod Edited
 pub mod Entries
+pub mod Free
 pub mod MbrEdits
 pub mod Records
 pub mod SliceLabels

@@ -1,6 +1,6 @@
 -- Free sectors, and where a new partition is placed.
 use Rattle.std.specs.Prelude.{◌≡◌, ◌≤◌, ◌⊎◌, ◌+◌, ℕ, List, Contains, Option, Some, None, ◌∷◌, ◌^◌, ◌&&◌, [], flat_map, nat_le, nat_lt}
-use Rattle.std.specs.Prelude.{if◌then◌else◌, ◌≢◌, ◌<◌, ◌-◌, ◌*◌, ◌%◌, nat_eq}
+use Rattle.std.specs.Prelude.{if◌then◌else◌, ◌≢◌, ◌<◌, ◌-◌, ◌*◌, ◌%◌, nat_eq, length, slice_index_or}
 use Rattle.pt_edit.specs.declared.space.space.Run.{Run}
 use Rattle.pt_edit.specs.declared.space.space.Lead.{Lead}
 use Rattle.pt_edit.specs.declared.space.space.Lead.TheVariants as leads
@@ -50,6 +50,12 @@ pub record IsBlock (a : Area) (b : Run) : Type 0 where
   pub free : (k : ℕ) → RunHolds b k → IsFree a k
   pub before : (k : ℕ) → k + 1 ≡ b.first → ¬ IsFree a k
   pub after : ¬ IsFree a (b.last + 1)
+
+-- all blocks, each behind the one before it
+pub record AreBlocks (a : Area) (blocks : List Run) : Type 0 where
+  pub each : (b : Run) → Contains blocks b → IsBlock a b
+  pub all : (b : Run) → IsBlock a b → Contains blocks b
+  pub ascending : (i j : ℕ) (d : Run) → i < j → j < length blocks → (slice_index_or blocks i d).last < (slice_index_or blocks j d).first
 
 -- where an extended boot record may stand
 abbrev pub TakesRecord : Area → List ℕ → ℕ → Type 0

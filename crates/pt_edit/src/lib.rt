@@ -9,6 +9,7 @@ mod convert;
 mod entries;
 mod entry_types;
 mod fold;
+mod free;
 mod gpt;
 mod kinds;
 pub mod labels;
@@ -29,5 +30,6 @@ mod twins;
 
 pub use convert::to_gpt;
 pub use fold::edit;
+pub use free::free_blocks;
 pub use partitions::guids_for;
 pub use pt_words::{Code, Edit, EditError, End, Refusal, parse_edit};

@@ -78,7 +78,7 @@ fn new_type_of(code: &Option<Code>) -> Option<Guid>
 }
 
 // Where a new entry may lie.
-fn table_space(alloc: Global, table: &Table) -> Result<Space, AllocError>
+pub(crate) fn table_space(alloc: Global, table: &Table) -> Result<Space, AllocError>
     ensures area { IfOk result (λ space. area_of space ≡ table_area table.now) }
     ensures small { IfOk result (λ space. space.high < 2 ^ 64) }
 {

@@ -22,4 +22,5 @@ pub use creation::new;
 pub use deletion::delete;
 pub use kind::set_kind;
 pub use parts::MbrParts;
+pub(crate) use space::record_space;
 pub use types::{is_container_type, is_slice_kind, new_type_of, record_type_of};

@@ -9,6 +9,7 @@ mod space;
 mod start;
 mod taken;
 
+pub use block::blocks;
 pub use placement::place;
 pub use space::{Lead, Run, Space};
 pub use taken::{taken_by_entries, taken_by_logicals, taken_by_parts, taken_by_records};

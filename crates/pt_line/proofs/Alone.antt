@@ -13,7 +13,7 @@ use Rattle.pt_line.specs.inner.CommandLine.{alone, name_of}
 use Rattle.pt_line.specs.CommandLine.{ptab}
 use Rattle.pt_line.specs.inner.Lines.{Begins, IsCommand, ReadsAs}
 use Rattle.pt_line.specs.declared.pages.Subcommand.{Subcommand}
-use Rattle.pt_line.specs.declared.pages.Subcommand.TheVariants.{Show, Verify, Locate, Edit, Plan, Check, Apply, Repair, Adopt}
+use Rattle.pt_line.specs.declared.pages.Subcommand.TheVariants.{Show, Verify, Locate, Free, Types, Edit, Plan, Check, Apply, Repair, Adopt}
 
 -- a walk that stopped at this name, with the words that it passed since
 abbrev stopped_at : Text → List Text → Walk
@@ -64,6 +64,8 @@ module _ (sizes : Bor (List (Bor Text))) where
   whole_meets Show = refl
   whole_meets Verify = refl
   whole_meets Locate = refl
+  whole_meets Free = refl
+  whole_meets Types = refl
   whole_meets Edit = refl
   whole_meets Plan = refl
   whole_meets Check = refl
@@ -76,6 +78,8 @@ module _ (sizes : Bor (List (Bor Text))) where
   whole_passes Show = refl
   whole_passes Verify = refl
   whole_passes Locate = refl
+  whole_passes Free = refl
+  whole_passes Types = refl
   whole_passes Edit = refl
   whole_passes Plan = refl
   whole_passes Check = refl
@@ -90,6 +94,8 @@ module _ (sizes : Bor (List (Bor Text))) where
   alone_meets Show = refl
   alone_meets Verify = refl
   alone_meets Locate = refl
+  alone_meets Free = refl
+  alone_meets Types = refl
   alone_meets Edit = refl
   alone_meets Plan = refl
   alone_meets Check = refl
@@ -102,6 +108,8 @@ module _ (sizes : Bor (List (Bor Text))) where
   alone_passes Show = refl
   alone_passes Verify = refl
   alone_passes Locate = refl
+  alone_passes Free = refl
+  alone_passes Types = refl
   alone_passes Edit = refl
   alone_passes Plan = refl
   alone_passes Check = refl
@@ -116,6 +124,8 @@ module _ (sizes : Bor (List (Bor Text))) where
     same_fault Show = refl
     same_fault Verify = refl
     same_fault Locate = refl
+    same_fault Free = refl
+    same_fault Types = refl
     same_fault Edit = refl
     same_fault Plan = refl
     same_fault Check = refl
@@ -128,6 +138,8 @@ module _ (sizes : Bor (List (Bor Text))) where
     same_entered Show = refl
     same_entered Verify = refl
     same_entered Locate = refl
+    same_entered Free = refl
+    same_entered Types = refl
     same_entered Edit = refl
     same_entered Plan = refl
     same_entered Check = refl
@@ -151,6 +163,8 @@ alone_is_free : (sizes : Bor (List (Bor Text))) (s : Subcommand) → is_simple_a
 alone_is_free sizes Show = refl
 alone_is_free sizes Verify = refl
 alone_is_free sizes Locate = refl
+alone_is_free sizes Free = refl
+alone_is_free sizes Types = refl
 alone_is_free sizes Edit = refl
 alone_is_free sizes Plan = refl
 alone_is_free sizes Check = refl
@@ -162,6 +176,8 @@ alone_is_simple : (sizes : Bor (List (Bor Text))) (s : Subcommand) → is_simple
 alone_is_simple sizes Show = refl
 alone_is_simple sizes Verify = refl
 alone_is_simple sizes Locate = refl
+alone_is_simple sizes Free = refl
+alone_is_simple sizes Types = refl
 alone_is_simple sizes Edit = refl
 alone_is_simple sizes Plan = refl
 alone_is_simple sizes Check = refl

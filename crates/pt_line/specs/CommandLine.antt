@@ -52,6 +52,17 @@ no_lock = record (new_rule (codes "no-lock")) { long = Some (codes "no-lock"); a
 abbrev pub plan_only : Rule
 plan_only = record (new_rule (codes "plan")) { long = Some (codes "plan"); action = Some SetTrue }
 
+-- `--keep-primary` and `--by-table`, flags
+abbrev pub keep_primary : Rule
+keep_primary = record (new_rule (codes "keep-primary")) { long = Some (codes "keep-primary"); action = Some SetTrue }
+
+abbrev pub by_table : Rule
+by_table = record (new_rule (codes "by-table")) { long = Some (codes "by-table"); action = Some SetTrue }
+
+-- `--json`, a flag
+abbrev pub json : Rule
+json = record (new_rule (codes "json")) { long = Some (codes "json"); action = Some SetTrue }
+
 -- `--device`, `--in-use` and `--other-device`, flags
 abbrev pub device : Rule
 device = record (new_rule (codes "device")) { long = Some (codes "device"); action = Some SetTrue }
@@ -74,26 +85,30 @@ edit_words = record (new_rule (codes "WORD")) {
 abbrev pub on_disk : Bor (List (Bor Text)) → List Rule
 on_disk sizes = device ∷ sector_size sizes ∷ []
 
--- the arguments of a command on an image alone; on one that may be shown after a plan, or by one copy; on a place in it; on words; and
--- on a plan's file
+-- the arguments of a command on an image alone; on one that may be shown after a plan, by one copy, or as JSON; on a place in it; on
+-- words; and on a plan's file
 abbrev pub image_rules : Bor (List (Bor Text)) → List Rule
 image_rules sizes = needed (codes "IMAGE") ∷ on_disk sizes
 
 abbrev pub show_rules : Bor (List (Bor Text)) → List Rule
-show_rules sizes = needed (codes "IMAGE") ∷ after ∷ copy ∷ on_disk sizes
+show_rules sizes = needed (codes "IMAGE") ∷ after ∷ copy ∷ json ∷ on_disk sizes
 
 abbrev pub place_rules : Bor (List (Bor Text)) → List Rule
 place_rules sizes = needed (codes "IMAGE") ∷ needed (codes "PATH") ∷ needed (codes "K") ∷ on_disk sizes
 
 abbrev pub word_rules : Bor (List (Bor Text)) → List Rule
-word_rules sizes = needed (codes "IMAGE") ∷ fresh ∷ (on_disk sizes ++ edit_words ∷ [])
+word_rules sizes = needed (codes "IMAGE") ∷ fresh ∷ keep_primary ∷ (on_disk sizes ++ edit_words ∷ [])
 
 abbrev pub plan_rules : Bor (List (Bor Text)) → List Rule
 plan_rules sizes = needed (codes "IMAGE") ∷ needed (codes "PLANFILE") ∷ on_disk sizes
 
+-- on an image that is mended
+abbrev pub mend_rules : Bor (List (Bor Text)) → List Rule
+mend_rules sizes = needed (codes "IMAGE") ∷ keep_primary ∷ on_disk sizes
+
 -- on another image besides, with its plan alone or not
 abbrev pub other_rules : Bor (List (Bor Text)) → List Rule
-other_rules sizes = needed (codes "IMAGE") ∷ needed (codes "OTHER") ∷ plan_only ∷ other_device ∷ on_disk sizes
+other_rules sizes = needed (codes "IMAGE") ∷ needed (codes "OTHER") ∷ plan_only ∷ by_table ∷ other_device ∷ on_disk sizes
 
 -- the same of a command that writes the image
 abbrev pub writing : List Rule → List Rule
@@ -113,11 +128,13 @@ ptab sizes = record {
   subs = subcommand (codes "show") (show_rules sizes)
       ∷ subcommand (codes "verify") (image_rules sizes)
       ∷ subcommand (codes "locate") (place_rules sizes)
+      ∷ subcommand (codes "free") (image_rules sizes)
+      ∷ subcommand (codes "types") []
       ∷ subcommand (codes "edit") (writing (word_rules sizes))
       ∷ subcommand (codes "plan") (word_rules sizes)
       ∷ subcommand (codes "check") (plan_rules sizes)
       ∷ subcommand (codes "apply") (writing (plan_rules sizes))
-      ∷ subcommand (codes "repair") (writing (image_rules sizes))
+      ∷ subcommand (codes "repair") (writing (mend_rules sizes))
       ∷ subcommand (codes "adopt") (writing (other_rules sizes))
       ∷ [];
 }

@@ -8,6 +8,8 @@ use Rattle.clap.specs.declared.error.kind.ErrorKind.TheVariants.{DisplayHelp, Di
 use Rattle.pt_line.specs.CommandLine.{ptab}
 use Rattle.pt_line.specs.declared.line.Adoption.{Adoption}
 use Rattle.pt_line.specs.declared.line.Adoption.TheVariants.{Planned, Written}
+use Rattle.pt_line.specs.declared.line.Form.{Form}
+use Rattle.pt_line.specs.declared.line.Form.TheVariants as form
 use Rattle.pt_line.specs.declared.line.InUse.{InUse}
 use Rattle.pt_line.specs.declared.line.InUse.TheVariants.{Refused, Allowed}
 use Rattle.pt_line.specs.declared.line.Job.{Job}
@@ -19,6 +21,8 @@ use Rattle.pt_line.specs.declared.line.LockedBy.{LockedBy}
 use Rattle.pt_line.specs.declared.line.LockedBy.TheVariants.{Ptab, Caller}
 use Rattle.pt_line.specs.declared.line.Medium.{Medium}
 use Rattle.pt_line.specs.declared.line.Medium.TheVariants.{File, Device}
+use Rattle.pt_line.specs.declared.line.PrimaryCopy.{PrimaryCopy}
+use Rattle.pt_line.specs.declared.line.PrimaryCopy.TheVariants.{ByTable, Kept}
 use Rattle.pt_line.specs.declared.line.SectorSize.{SectorSize}
 use Rattle.pt_line.specs.declared.line.SectorSize.TheVariants.{Bytes512, Bytes4096}
 
@@ -38,6 +42,21 @@ abbrev pub IsAdoption : List Row → Adoption → Type 0
 IsAdoption rows Planned = IsGiven rows (codes "plan")
 IsAdoption rows Written = ¬ IsGiven rows (codes "plan")
 
+-- the table is shown as JSON where the flag `--json` was given
+abbrev pub IsForm : List Row → Form → Type 0
+IsForm rows form.Json = IsGiven rows (codes "json")
+IsForm rows form.Lines = ¬ IsGiven rows (codes "json")
+
+-- the primary copy is kept where the flag `--keep-primary` was given
+abbrev pub IsKeeping : List Row → PrimaryCopy → Type 0
+IsKeeping rows Kept = IsGiven rows (codes "keep-primary")
+IsKeeping rows ByTable = ¬ IsGiven rows (codes "keep-primary")
+
+-- of an adoption it is kept where the flag `--by-table` wasn't
+abbrev pub IsKeptUnless : List Row → PrimaryCopy → Type 0
+IsKeptUnless rows Kept = ¬ IsGiven rows (codes "by-table")
+IsKeptUnless rows ByTable = IsGiven rows (codes "by-table")
+
 -- what is opened is a block device where the flag with this id was given
 abbrev pub IsMedium : List Row → Text → Medium → Type 0
 IsMedium rows id Device = IsGiven rows id
@@ -55,25 +74,29 @@ IsAlone rows = IsGiven rows (codes "in-use") × ¬ IsGiven rows (codes "device")
 -- the job of the subcommand with this name: `one` says what text an argument gives, and `all` what texts
 abbrev pub IsJobBy : (Text → Text → Type 0) → (Text → List Text → Type 0) → Text → List Row → Job → Type 0
 IsJobBy one all name rows (job.Help text) = ⊥
-IsJobBy one all name rows (job.Show image after copy) = (name ≡ codes "show") × one (codes "IMAGE") (string_bytes image)
+IsJobBy one all name rows (job.Show image after copy form) = (name ≡ codes "show") × one (codes "IMAGE") (string_bytes image)
     × (option_map string_bytes after ≡ first_of (codes "after") rows) × (option_map string_bytes copy ≡ first_of (codes "copy") rows)
+    × IsForm rows form
 IsJobBy one all name rows (job.Verify image) = (name ≡ codes "verify") × one (codes "IMAGE") (string_bytes image)
 IsJobBy one all name rows (job.Locate image path place) = (name ≡ codes "locate") × one (codes "IMAGE") (string_bytes image)
     × one (codes "PATH") (string_bytes path) × one (codes "K") (string_bytes place)
-IsJobBy one all name rows (job.Edit image fresh list locked_by) = (name ≡ codes "edit") × one (codes "IMAGE") (string_bytes image)
+IsJobBy one all name rows (job.Free image) = (name ≡ codes "free") × one (codes "IMAGE") (string_bytes image)
+IsJobBy one all name rows job.Types = (name ≡ codes "types")
+IsJobBy one all name rows (job.Edit image fresh list primary locked_by) = (name ≡ codes "edit") × one (codes "IMAGE") (string_bytes image)
     × (option_map string_bytes fresh ≡ first_of (codes "fresh") rows) × all (codes "WORD") (map string_bytes list.items)
-    × IsLockedBy rows locked_by
-IsJobBy one all name rows (job.Plan image fresh list) = (name ≡ codes "plan") × one (codes "IMAGE") (string_bytes image)
+    × IsKeeping rows primary × IsLockedBy rows locked_by
+IsJobBy one all name rows (job.Plan image fresh list primary) = (name ≡ codes "plan") × one (codes "IMAGE") (string_bytes image)
     × (option_map string_bytes fresh ≡ first_of (codes "fresh") rows) × all (codes "WORD") (map string_bytes list.items)
+    × IsKeeping rows primary
 IsJobBy one all name rows (job.Check image file) =
     (name ≡ codes "check") × one (codes "IMAGE") (string_bytes image) × one (codes "PLANFILE") (string_bytes file)
 IsJobBy one all name rows (job.Apply image file locked_by) = (name ≡ codes "apply") × one (codes "IMAGE") (string_bytes image)
     × one (codes "PLANFILE") (string_bytes file) × IsLockedBy rows locked_by
-IsJobBy one all name rows (job.Repair image locked_by) =
-    (name ≡ codes "repair") × one (codes "IMAGE") (string_bytes image) × IsLockedBy rows locked_by
-IsJobBy one all name rows (job.Adopt image other medium adoption locked_by) = (name ≡ codes "adopt")
+IsJobBy one all name rows (job.Repair image primary locked_by) = (name ≡ codes "repair") × one (codes "IMAGE") (string_bytes image)
+    × IsKeeping rows primary × IsLockedBy rows locked_by
+IsJobBy one all name rows (job.Adopt image other medium adoption primary locked_by) = (name ≡ codes "adopt")
     × one (codes "IMAGE") (string_bytes image) × one (codes "OTHER") (string_bytes other) × IsMedium rows (codes "other-device") medium
-    × IsAdoption rows adoption × IsLockedBy rows locked_by
+    × IsAdoption rows adoption × IsKeptUnless rows primary × IsLockedBy rows locked_by
 
 -- its texts are the values of its arguments, which have them
 abbrev pub IsJob : Text → List Row → Job → Type 0

@@ -169,9 +169,7 @@ pub const PTAB: Texts = Texts {
 Shows, verifies, edits and repairs partition tables in disk images: GPT, MBR and
 BSD labels. A power cut during an edit leaves the old table or the new one.",
     short: "\
-Exit status: 0 done or yes, 1 the answer is no, 2 usage or an unreadable word,
-3 refused, 4 no table, 5 the image or an output stream failed, 6 no memory.
-After 2, 3, 4 and 6 nothing was written.",
+Exit status: 0 done, 1 no, 2 usage, 3 refused, 4 no table, 5 failed, 6 memory.",
     long: "\
 Exit status:
   0  done, or yes
@@ -193,8 +191,7 @@ The first line is `gpt SECTORS FIRST LAST DISKGUID` (the usable sectors) or
   GPT    NUM FIRST LAST TYPE ATTRIBUTES UNIQUE [NAME]
   MBR    NUM FIRST LAST TYPE BOOT
   label  NUM.LETTER FIRST LAST FSTYPE
-Every sector is the disk's own number. With --after they are those that the plan
-leaves; or `no ..`, as `ptab check` says it.
+Sectors are the disk's own; with --after the plan's, or `no ..` as `check` says.
 
 ",
     "\
@@ -255,6 +252,38 @@ Unreadable, status 2:
     no_table devices
 );
 
+pub const FREE: Texts = page!(
+    "Prints where a new partition may lie: blocks of free sectors",
+    "\
+Each line is `FIRST LAST`: free sectors with none before or after them, in
+ascending order. Every sector is the disk's own number. On a GPT those are free
+that are usable and in no entry; on an MBR those from 1 on, as far as the disk
+and 32 bits reach, that are in no record. The inside of the extended partition
+and of slices isn't listed. `none`: no sector is free.
+
+",
+    "\
+Exit status: 0 shown, 1 none, 2 usage, 4 no table, 5 the image can't be read,
+6 no memory.",
+    no_table devices
+);
+
+pub const TYPES: Texts = page!(
+    "Prints the partition types that have names",
+    "\
+Each line is `gpt CODE GUID NAME` or `mbr TYPE NAME`. `ptab show --json` prints
+NAME under `type_name`.
+
+",
+    "\
+Exit status: 0 printed, 2 usage, 5 the output failed, 6 no memory.",
+    "
+
+CODE is sgdisk's code of four digits, `-` where there is none. GUID is the type
+as an entry of a GPT has it; TYPE, two hexadecimal digits, as a record of an MBR
+has it. The list is the program's own: no image is opened, and none is named."
+);
+
 pub const EDIT: Texts = page!(
     "Edits the table by words, as one change: all of them or none",
     "\
@@ -263,7 +292,6 @@ delete, t:PATH:CODE type, c:NUM:NAME name, u:NUM:GUID its GUID, U:GUID the
 disk's, A:NUM:BIT:V attribute, a:K alignment, e use a grown disk, o empty GPT, g
 MBR to GPT. PATH is 3 or 2.a; CODE EF00 8300 8200 0700 A500 A503, or two digits.
   --fresh $(head -c 1024 /dev/urandom | od -An -v -tx1 | tr -d ' \\n')
-
 ",
     "\
 Exit status: 0 done, 2 usage, 3 refused, 4 no table, 5 failed: the old or new
@@ -337,10 +365,9 @@ opened, read or written, 6 no memory. After 2, 3, 4 and 6 nothing was written.",
 pub const ADOPT: Texts = page!(
     "Gives the image the table of another one, as one change",
     "\
-The table that OTHER denotes becomes the image's, by a checked plan: a stop at
-any moment leaves the old table or OTHER's. Both have as many sectors. Boot
-code, an MBR's disk signature, hybrid records and data aren't taken. A fault of
-OTHER is told behind `other: `. Device: ptab-run --device DEV ptab adopt @ OTHER
+OTHER's table becomes the image's: a stop at any moment leaves the old table or
+OTHER's. Both have as many sectors. Boot code, an MBR's disk signature, hybrid
+records and data aren't taken. Device: ptab-run --device DEV ptab adopt @ OTHER
 
 ",
     "\

@@ -4,9 +4,11 @@ ghost use Rattle.std.specs.Prelude.{◌≡◌, ◌↔◌, Some, IfOk, IsTrue, co
 ghost use Rattle.clap.specs.Walk.{texts as slice_texts};
 ghost use Rattle.clap.specs.Words.{found_of, rows_of, subcommand_rows_of};
 ghost use Rattle.pt_line.specs.inner.Lines.{GivesIf, HasNoJob, IfJob, IsSizeNamed, IsSizeOrLess, IsUnknown, MeansJob, text_in, texts_in};
-ghost use Rattle.pt_line.specs.Lines.{IsAdoption, IsGiven, IsInUse, IsLockedBy, IsMedium};
+ghost use Rattle.pt_line.specs.Lines.{IsAdoption, IsForm, IsGiven, IsInUse, IsKeeping, IsKeptUnless, IsLockedBy, IsMedium};
 
-use crate::line::{Adoption, InUse, Job, Line, LineError, LockedBy, Medium, SectorSize};
+use crate::line::{
+    Adoption, Form, InUse, Job, Line, LineError, LockedBy, Medium, PrimaryCopy, SectorSize,
+};
 use clap::ArgMatches;
 use std::alloc::{AllocError, Global};
 
@@ -105,6 +107,16 @@ fn in_use_of(matches: &ArgMatches<'_>) -> InUse
     }
 }
 
+fn form_of(matches: &ArgMatches<'_>) -> Form
+    ensures { IsForm (rows_of (found_of matches.now)) result }
+{
+    if is_given(matches, "json") {
+        Form::Json
+    } else {
+        Form::Lines
+    }
+}
+
 fn adoption_of(matches: &ArgMatches<'_>) -> Adoption
     ensures { IsAdoption (rows_of (found_of matches.now)) result }
 {
@@ -112,6 +124,26 @@ fn adoption_of(matches: &ArgMatches<'_>) -> Adoption
         Adoption::Planned
     } else {
         Adoption::Written
+    }
+}
+
+fn keeping_of(matches: &ArgMatches<'_>) -> PrimaryCopy
+    ensures { IsKeeping (rows_of (found_of matches.now)) result }
+{
+    if is_given(matches, "keep-primary") {
+        PrimaryCopy::Kept
+    } else {
+        PrimaryCopy::ByTable
+    }
+}
+
+fn kept_unless(matches: &ArgMatches<'_>) -> PrimaryCopy
+    ensures { IsKeptUnless (rows_of (found_of matches.now)) result }
+{
+    if is_given(matches, "by-table") {
+        PrimaryCopy::ByTable
+    } else {
+        PrimaryCopy::Kept
     }
 }
 
@@ -127,6 +159,18 @@ fn edit_of(
     Ok((fresh, texts_of(alloc, matches, "WORD")?))
 }
 
+fn show_job(alloc: Global, inner: &ArgMatches<'_>, image: String) -> Result<Job, LineError>
+    requires { string_bytes image ≡ text_in (rows_of (found_of inner.now)) (codes "IMAGE") }
+    ensures { IfJob (codes "show") (rows_of (found_of inner.now)) result }
+{
+    Ok(Job::Show {
+        image,
+        after: value_of(alloc, inner, "after")?,
+        copy: value_of(alloc, inner, "copy")?,
+        form: form_of(inner),
+    })
+}
+
 fn place_job(alloc: Global, inner: &ArgMatches<'_>, image: String) -> Result<Job, LineError>
     requires { string_bytes image ≡ text_in (rows_of (found_of inner.now)) (codes "IMAGE") }
     ensures { IfJob (codes "locate") (rows_of (found_of inner.now)) result }
@@ -135,6 +179,33 @@ fn place_job(alloc: Global, inner: &ArgMatches<'_>, image: String) -> Result<Job
         image,
         path: text_of(alloc, inner, "PATH")?,
         place: text_of(alloc, inner, "K")?,
+    })
+}
+
+fn edit_job(alloc: Global, inner: &ArgMatches<'_>, image: String) -> Result<Job, LineError>
+    requires { string_bytes image ≡ text_in (rows_of (found_of inner.now)) (codes "IMAGE") }
+    ensures { IfJob (codes "edit") (rows_of (found_of inner.now)) result }
+{
+    let (fresh, words) = edit_of(alloc, inner)?;
+    Ok(Job::Edit {
+        image,
+        fresh,
+        words,
+        primary: keeping_of(inner),
+        locked_by: locked_by(inner),
+    })
+}
+
+fn plan_job(alloc: Global, inner: &ArgMatches<'_>, image: String) -> Result<Job, LineError>
+    requires { string_bytes image ≡ text_in (rows_of (found_of inner.now)) (codes "IMAGE") }
+    ensures { IfJob (codes "plan") (rows_of (found_of inner.now)) result }
+{
+    let (fresh, words) = edit_of(alloc, inner)?;
+    Ok(Job::Plan {
+        image,
+        fresh,
+        words,
+        primary: keeping_of(inner),
     })
 }
 
@@ -147,6 +218,7 @@ fn adopt_job(alloc: Global, inner: &ArgMatches<'_>, image: String) -> Result<Job
         other: text_of(alloc, inner, "OTHER")?,
         other_medium: medium_of(inner, "other-device"),
         adoption: adoption_of(inner),
+        primary: kept_unless(inner),
         locked_by: locked_by(inner),
     })
 }
@@ -157,30 +229,13 @@ fn job_of(alloc: Global, name: &str, inner: &ArgMatches<'_>) -> Result<Job, Line
 {
     let image = text_of(alloc, inner, "IMAGE")?;
     match name {
-        "show" => Ok(Job::Show {
-            image,
-            after: value_of(alloc, inner, "after")?,
-            copy: value_of(alloc, inner, "copy")?,
-        }),
+        "show" => show_job(alloc, inner, image),
         "verify" => Ok(Job::Verify { image }),
         "locate" => place_job(alloc, inner, image),
-        "edit" => {
-            let (fresh, words) = edit_of(alloc, inner)?;
-            Ok(Job::Edit {
-                image,
-                fresh,
-                words,
-                locked_by: locked_by(inner),
-            })
-        }
-        "plan" => {
-            let (fresh, words) = edit_of(alloc, inner)?;
-            Ok(Job::Plan {
-                image,
-                fresh,
-                words,
-            })
-        }
+        "free" => Ok(Job::Free { image }),
+        "types" => Ok(Job::Types),
+        "edit" => edit_job(alloc, inner, image),
+        "plan" => plan_job(alloc, inner, image),
         "check" => Ok(Job::Check {
             image,
             file: text_of(alloc, inner, "PLANFILE")?,
@@ -192,6 +247,7 @@ fn job_of(alloc: Global, name: &str, inner: &ArgMatches<'_>) -> Result<Job, Line
         }),
         "repair" => Ok(Job::Repair {
             image,
+            primary: keeping_of(inner),
             locked_by: locked_by(inner),
         }),
         "adopt" => adopt_job(alloc, inner, image),

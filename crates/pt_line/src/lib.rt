@@ -8,4 +8,7 @@ mod line;
 mod pages;
 
 pub use args::take_words;
-pub use line::{Adoption, InUse, Job, Line, LineError, LockedBy, Medium, SectorSize, read_line};
+pub use line::{
+    Adoption, Form, InUse, Job, Line, LineError, LockedBy, Medium, PrimaryCopy, SectorSize,
+    read_line,
+};

@@ -31,6 +31,15 @@ pub enum LockedBy {
     Caller,
 }
 
+/// How a table is shown.
+#[derive(Clone, Copy)]
+pub enum Form {
+    /// In lines.
+    Lines,
+    /// As an object of JSON, by `--json`.
+    Json,
+}
+
 /// What an adoption comes to.
 #[derive(Clone, Copy)]
 pub enum Adoption {
@@ -38,6 +47,15 @@ pub enum Adoption {
     Written,
     /// Its plan alone, by `--plan`.
     Planned,
+}
+
+/// What becomes of the primary copy of a GPT while a table is written.
+#[derive(Clone, Copy)]
+pub enum PrimaryCopy {
+    /// Its header is zeroed, by the specification's table.
+    ByTable,
+    /// It leads to the backup's array meanwhile.
+    Kept,
 }
 
 /// What is opened.
@@ -79,6 +97,7 @@ pub enum Job {
         after: Option<String>,
         /// The name of one copy of a GPT, which is shown alone.
         copy: Option<String>,
+        form: Form,
     },
     Verify {
         image: String,
@@ -88,16 +107,23 @@ pub enum Job {
         path: String,
         place: String,
     },
+    Free {
+        image: String,
+    },
+    /// The partition types that have names. It is asked of no image.
+    Types,
     Edit {
         image: String,
         fresh: Option<String>,
         words: Vec<String>,
+        primary: PrimaryCopy,
         locked_by: LockedBy,
     },
     Plan {
         image: String,
         fresh: Option<String>,
         words: Vec<String>,
+        primary: PrimaryCopy,
     },
     Check {
         image: String,
@@ -110,6 +136,7 @@ pub enum Job {
     },
     Repair {
         image: String,
+        primary: PrimaryCopy,
         locked_by: LockedBy,
     },
     Adopt {
@@ -117,6 +144,7 @@ pub enum Job {
         other: String,
         other_medium: Medium,
         adoption: Adoption,
+        primary: PrimaryCopy,
         locked_by: LockedBy,
     },
 }

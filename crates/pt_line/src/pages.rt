@@ -9,7 +9,8 @@ ghost use Rattle.pt_line.specs.inner.CommandLine as spec_inner;
 ghost use Rattle.pt_line.specs.inner.Lines.{AddsPage, AddsRules, Begins, IsArg, IsCommand, ReadsAs, TakesArg};
 
 use crate::help::{
-    ADOPT, APPLY, CHECK, EDIT, LOCATE, PLAN, PTAB, REPAIR, SHOW, Texts, VERIFY, VERSION,
+    ADOPT, APPLY, CHECK, EDIT, FREE, LOCATE, PLAN, PTAB, REPAIR, SHOW, TYPES, Texts, VERIFY,
+    VERSION,
 };
 use clap::{Arg, ArgAction, Command};
 use std::alloc::{AllocError, Global};
@@ -23,6 +24,8 @@ pub(crate) enum Subcommand {
     Show,
     Verify,
     Locate,
+    Free,
+    Types,
     Edit,
     Plan,
     Check,
@@ -39,6 +42,8 @@ fn subcommand_named(name: &str) -> Option<Subcommand>
         "show" => Some(Subcommand::Show),
         "verify" => Some(Subcommand::Verify),
         "locate" => Some(Subcommand::Locate),
+        "free" => Some(Subcommand::Free),
+        "types" => Some(Subcommand::Types),
         "edit" => Some(Subcommand::Edit),
         "plan" => Some(Subcommand::Plan),
         "check" => Some(Subcommand::Check),
@@ -125,6 +130,12 @@ fn flag<'a>(alloc: Global, id: &'a str, help: &'a str) -> Arg<'a>
         .help(help)
 }
 
+fn json<'a>(alloc: Global) -> Arg<'a>
+    ensures { IsArg spec.json result }
+{
+    flag(alloc, "json", "Print the table as an object of JSON")
+}
+
 fn device<'a>(alloc: Global) -> Arg<'a>
     ensures { IsArg spec.device result }
 {
@@ -167,6 +178,26 @@ fn plan_only<'a>(alloc: Global) -> Arg<'a>
     ensures { IsArg spec.plan_only result }
 {
     flag(alloc, "plan", "Print the plan, and write nothing")
+}
+
+fn keep_primary<'a>(alloc: Global) -> Arg<'a>
+    ensures { IsArg spec.keep_primary result }
+{
+    flag(
+        alloc,
+        "keep-primary",
+        "Keep the primary copy of a GPT whole throughout",
+    )
+}
+
+fn by_table<'a>(alloc: Global) -> Arg<'a>
+    ensures { IsArg spec.by_table result }
+{
+    flag(
+        alloc,
+        "by-table",
+        "Zero the primary header meanwhile, as `edit` does",
+    )
 }
 
 fn words<'a>(alloc: Global) -> Arg<'a>
@@ -267,6 +298,7 @@ fn on_show<'a>(
     let page = image_page(alloc, name, texts);
     let page = with_arg(page, after(alloc));
     let page = with_arg(page, copy(alloc));
+    let page = with_arg(page, json(alloc));
     on_disk(alloc, sizes, page)
 }
 
@@ -297,6 +329,7 @@ fn on_words<'a>(
 {
     let page = image_page(alloc, name, texts);
     let page = with_arg(page, fresh(alloc));
+    let page = with_arg(page, keep_primary(alloc));
     let page = on_disk(alloc, sizes, page);
     with_arg(page, words(alloc))
 }
@@ -314,6 +347,19 @@ fn on_plan<'a>(
     on_disk(alloc, sizes, page)
 }
 
+fn on_mending<'a>(
+    alloc: Global,
+    sizes: &'a [&'a str],
+    name: &'a str,
+    texts: Texts,
+) -> Result<Command<'a>, AllocError>
+    ensures { IfOk result (IsCommand (spec_inner.page name.entry.now (spec.mend_rules sizes.entry))) }
+{
+    let page = image_page(alloc, name, texts);
+    let page = with_arg(page, keep_primary(alloc));
+    on_disk(alloc, sizes, page)
+}
+
 fn on_other<'a>(
     alloc: Global,
     sizes: &'a [&'a str],
@@ -325,6 +371,7 @@ fn on_other<'a>(
     let page = image_page(alloc, name, texts);
     let page = with_arg(page, other(alloc));
     let page = with_arg(page, plan_only(alloc));
+    let page = with_arg(page, by_table(alloc));
     let page = with_arg(page, other_device(alloc));
     on_disk(alloc, sizes, page)
 }
@@ -364,11 +411,13 @@ fn page_of<'a>(
         Subcommand::Show => on_show(alloc, sizes, "show", SHOW),
         Subcommand::Verify => on_image(alloc, sizes, "verify", VERIFY),
         Subcommand::Locate => on_place(alloc, sizes, "locate", LOCATE),
+        Subcommand::Free => on_image(alloc, sizes, "free", FREE),
+        Subcommand::Types => Ok(page(alloc, "types", TYPES)),
         Subcommand::Edit => writing(alloc, on_words(alloc, sizes, "edit", EDIT)),
         Subcommand::Plan => on_words(alloc, sizes, "plan", PLAN),
         Subcommand::Check => on_plan(alloc, sizes, "check", CHECK),
         Subcommand::Apply => writing(alloc, on_plan(alloc, sizes, "apply", APPLY)),
-        Subcommand::Repair => writing(alloc, on_image(alloc, sizes, "repair", REPAIR)),
+        Subcommand::Repair => writing(alloc, on_mending(alloc, sizes, "repair", REPAIR)),
         Subcommand::Adopt => writing(alloc, on_other(alloc, sizes, "adopt", ADOPT)),
     }
 }
@@ -381,6 +430,8 @@ fn whole<'a>(alloc: Global, sizes: &'a [&'a str]) -> Result<Command<'a>, AllocEr
     let ptab = with_page(ptab, page_of(alloc, sizes, Subcommand::Show));
     let ptab = with_page(ptab, page_of(alloc, sizes, Subcommand::Verify));
     let ptab = with_page(ptab, page_of(alloc, sizes, Subcommand::Locate));
+    let ptab = with_page(ptab, page_of(alloc, sizes, Subcommand::Free));
+    let ptab = with_page(ptab, page_of(alloc, sizes, Subcommand::Types));
     let ptab = with_page(ptab, page_of(alloc, sizes, Subcommand::Edit));
     let ptab = with_page(ptab, page_of(alloc, sizes, Subcommand::Plan));
     let ptab = with_page(ptab, page_of(alloc, sizes, Subcommand::Check));

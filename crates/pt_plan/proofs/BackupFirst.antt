@@ -1,6 +1,7 @@
--- A plan that writes the backup copy and the new labels, closes the primary header, and writes the primary copy lands.
+-- A plan that writes the backup copy and the new labels, then other bytes over the primary header, and then the primary copy lands, also
+-- where phases that change nothing are left out.
 use Rattle.std.proofs.Common.{◌≡◌, ◌∙◌, ◌⊎◌, inl, inr, ⊎_elim, ℕ, ◌+◌, ◌-◌, ◌<◌, ◌≤◌, List, length, replicate, refl, sym, ap, subst}
-use Rattle.std.proofs.Common.{arith, Option, Some}
+use Rattle.std.proofs.Common.{arith, Option, Some, ◌++◌, length-append}
 use Rattle.pt_sector.specs.Sectors.{Sectors, sector, IsSectorSize, Writes, Puts, written, after}
 use Rattle.pt_sector.proofs.Written.{stopped_written, written-append}
 use Rattle.pt_sector.specs.inner.ForFields.{length-written}
@@ -13,10 +14,9 @@ use Rattle.pt_recover.proofs.Terms.{stop_keeps_lem}
 use Rattle.pt_members.specs.declared.layout.Body.{Body}
 use Rattle.pt_members.specs.declared.layout.Layout.{Layout}
 use Rattle.pt_layout.specs.Healthy.{IsHealthy, place}
-use Rattle.pt_check.proofs.Walk.{Turns}
 use Rattle.pt_cases.specs.Cases.{IsBackupFirst, labels_and_backup, backup_first_phases}
-use Rattle.pt_cases.specs.Writes.{header_of, array_phase, one_write, closing, backup_phase, ComesToHold}
-use Rattle.pt_plan.proofs.Landings.{HasBoth, last_written, last_stays, last_misses, IsGood, Each, landed, few_enough, middle}
+use Rattle.pt_cases.specs.Writes.{header_of, array_phase, one_write, backup_phase, ComesToHold}
+use Rattle.pt_plan.proofs.Landings.{HasBoth, last_written, last_stays, last_misses, IsGood, landed, few_enough, middle}
 use Rattle.pt_plan.proofs.Landings.{label_middle, backup_high, primary_low, label_good, one_good, array_good, backup_good, last_good}
 use Rattle.pt_plan.proofs.Landings.{backup_there, primary_there, array_filled, labels_met, labels_end}
 use Rattle.pt_apply.proofs.Puts.{puts_split}
@@ -24,50 +24,60 @@ use Rattle.pt_cases.proofs.FewLemmas.{backup_first_count}
 use Rattle.pt_cases.proofs.Frames.{LabelsRight, misses, there_one, one_is, side_stands, labels_right, not_mbr, denotes_gpt}
 use Rattle.pt_plan.specs.Commits.{Lands}
 use Rattle.pt_cases.proofs.MetLemmas.{labels_met_right}
-use Rattle.pt_cases.proofs.Within.{side_within, zeros_no_copy, reads_gpt, closed_misses_low}
+use Rattle.pt_cases.proofs.Within.{side_within, reads_gpt}
+use Rattle.pt_cases.specs.Kept.{AllStand, KeepsBackupFirst}
+use Rattle.pt_apply.specs.Plans.{writes_in}
+use Rattle.pt_check.specs.Answers.{most_writes}
+use Rattle.pt_members.specs.Tables.{OwnedOf}
+use Rattle.pt_recover.proofs.Terms.{denotes_one_lem}
+use Rattle.pt_plan.proofs.Landings.{landed_fine}
+use Rattle.pt_plan.proofs.Needing.{Each, put_each, each_both, each_append, each_needed, each_primary, count_append, count_needed}
+use Rattle.pt_plan.proofs.Needing.{count_primary}
+use Rattle.pt_plan.proofs.Shutting.{Shut, zeros_shut, bridge_shut, shut_no_copy, shut_misses_low}
+use Rattle.pt_plan.proofs.Walks.{Goes, BackupFirstWalk, backup_first_turns, backup_first_goes, after_backup_first}
 
 module _ (b : ℕ) (d : Sectors) (o : Option Layout) (p : Layout) (t : Table) (phases : List Writes) (size : IsSectorSize b)
-    (is : IsBackupFirst b d o p t phases) where
-  abbrev n : ℕ
+    (is : IsBackupFirst b d o p t phases) (between : List ℕ) (shut : Shut b (length d) between) where
+  abbrev pub n : ℕ
   n = length d
 
-  abbrev backup_writes : Writes
+  abbrev pub backup_writes : Writes
   backup_writes = backup_phase b n t is.copies.backup
 
-  abbrev primary_array : Writes
+  abbrev pub primary_array : Writes
   primary_array = array_phase b n t Primary
 
-  abbrev p1 : Writes
+  abbrev pub p1 : Writes
   p1 = labels_and_backup b n t is.copies.backup is.copies.labels
 
-  abbrev primary_header : Writes
+  abbrev pub primary_header : Writes
   primary_header = one_write 1 is.copies.primary
 
-  abbrev planned : List Writes
-  planned = backup_first_phases b n t is.copies.primary is.copies.backup is.copies.labels is.last
+  abbrev pub meanwhile : Writes
+  meanwhile = one_write 1 between
 
-  abbrev d1 : Sectors
+  abbrev pub d1 : Sectors
   d1 = written p1 d
 
-  abbrev d2 : Sectors
-  d2 = written (closing b) d1
+  abbrev pub d2 : Sectors
+  d2 = written meanwhile d1
 
-  abbrev d3 : Sectors
+  abbrev pub d3 : Sectors
   d3 = written primary_array d2
 
-  abbrev d4 : Sectors
+  abbrev pub d4 : Sectors
   d4 = written primary_header d3
 
-  n1 : length d1 ≡ n
+  pub n1 : length d1 ≡ n
   n1 = length-written p1 d
 
-  n2 : length d2 ≡ n
-  n2 = length-written (closing b) d1 ∙ n1
+  pub n2 : length d2 ≡ n
+  n2 = length-written meanwhile d1 ∙ n1
 
-  n3 : length d3 ≡ n
+  pub n3 : length d3 ≡ n
   n3 = length-written primary_array d2 ∙ n2
 
-  n4 : length d4 ≡ n
+  pub n4 : length d4 ≡ n
   n4 = length-written primary_header d3 ∙ n3
 
   room : HasRoom b n
@@ -79,7 +89,7 @@ module _ (b : ℕ) (d : Sectors) (o : Option Layout) (p : Layout) (t : Table) (p
   mid : (s : ℕ) → IsPlace (places_of b p.sectors p.body) s → (array_len b + 2 ≤ s) × (s < n - (array_len b + 1))
   mid = middle b d o p t size is.common.sound is.common.sectors is.copies
 
-  low : (s : ℕ) (x : List ℕ) → Puts primary_array s x → (2 ≤ s) × (s < array_len b + 2)
+  pub low : (s : ℕ) (x : List ℕ) → Puts primary_array s x → (2 ≤ s) × (s < array_len b + 2)
   low = primary_low b d o p t size is.common.sound is.common.sectors is.copies
 
   high : (s : ℕ) (x : List ℕ) → Puts p1 s x → array_len b + 2 ≤ s
@@ -129,12 +139,12 @@ module _ (b : ℕ) (d : Sectors) (o : Option Layout) (p : Layout) (t : Table) (p
   back_high c s count reads =
       ⊎_elim (λ header. omega (arith, header, count, room)) (λ a. omega (arith, a.0, count, room)) (side_within b c Backup s size reads)
 
-  second2 : CopyWith b d2 Backup (header_of b n t Backup) t
+  pub second2 : CopyWith b d2 Backup (header_of b n t Backup) t
   second2 =
-      side_stands b d1 (closing b) Backup (header_of b n t Backup) t
-      (λ s x puts reads. (let at = one_is 1 s (replicate b 0) x puts in let up = back_high d1 s n1 reads in omega (arith, at, up))) second1
+      side_stands b d1 meanwhile Backup (header_of b n t Backup) t
+      (λ s x puts reads. (let at = one_is 1 s between x puts in let up = back_high d1 s n1 reads in omega (arith, at, up))) second1
 
-  second3 : CopyWith b d3 Backup (header_of b n t Backup) t
+  pub second3 : CopyWith b d3 Backup (header_of b n t Backup) t
   second3 =
       side_stands b d2 primary_array Backup (header_of b n t Backup) t
       (λ s x puts reads. (let at = low s x puts in let up = back_high d2 s n2 reads in omega (arith, at.1, up))) second2
@@ -145,7 +155,7 @@ module _ (b : ℕ) (d : Sectors) (o : Option Layout) (p : Layout) (t : Table) (p
       (λ s x puts reads. (let at = one_is 1 s is.copies.primary x puts in let up = back_high d3 s n3 reads in
       omega (arith, at, up))) second3
 
-  first4 : CopyWith b d4 Primary (header_of b n t Primary) t
+  pub first4 : CopyWith b d4 Primary (header_of b n t Primary) t
   first4 =
       primary_there b d o p t size is.common.sound is.common.sectors is.copies d4 n4
       (there_one d3 1 is.copies.primary (omega (arith, n3, room)))
@@ -154,8 +164,8 @@ module _ (b : ℕ) (d : Sectors) (o : Option Layout) (p : Layout) (t : Table) (p
 
   labels2 : LabelsRight b d2 p
   labels2 =
-      labels_right b d1 p (closing b)
-      (λ s x puts at. (let one = one_is 1 s (replicate b 0) x puts in let up = mid s at in omega (arith, one, up.0))) labels1
+      labels_right b d1 p meanwhile
+      (λ s x puts at. (let one = one_is 1 s between x puts in let up = mid s at in omega (arith, one, up.0))) labels1
 
   labels3 : LabelsRight b d3 p
   labels3 =
@@ -170,7 +180,7 @@ module _ (b : ℕ) (d : Sectors) (o : Option Layout) (p : Layout) (t : Table) (p
   same1 = misses d p1 0 (λ x puts. (let up = high 0 x puts in omega (arith, up)))
 
   same2 : sector d2 0 ≡ sector d1 0
-  same2 = misses d1 (closing b) 0 (λ x puts. (let at = one_is 1 0 (replicate b 0) x puts in omega (arith, at)))
+  same2 = misses d1 meanwhile 0 (λ x puts. (let at = one_is 1 0 between x puts in omega (arith, at)))
 
   same3 : sector d3 0 ≡ sector d2 0
   same3 = misses d2 primary_array 0 (λ x puts. (let at = low 0 x puts in omega (arith, at.0)))
@@ -187,11 +197,11 @@ module _ (b : ℕ) (d : Sectors) (o : Option Layout) (p : Layout) (t : Table) (p
   isnt4 : ¬ IsMbrDisk d4
   isnt4 = not_mbr d d4 n4 (same4 ∙ same3 ∙ same2 ∙ same1) is.plain
 
-  zeros2 : sector d2 1 ≡ replicate b 0
-  zeros2 = there_one d1 1 (replicate b 0) (omega (arith, n1, room))
+  pub there2 : sector d2 1 ≡ between
+  there2 = there_one d1 1 between (omega (arith, n1, room))
 
-  zeros3 : sector d3 1 ≡ replicate b 0
-  zeros3 = misses d2 primary_array 1 (λ x puts. (let at = low 1 x puts in omega (arith, at.0))) ∙ zeros2
+  pub there3 : sector d3 1 ≡ between
+  there3 = misses d2 primary_array 1 (λ x puts. (let at = low 1 x puts in omega (arith, at.0))) ∙ there2
 
   old1 : Denotes b d1 o
   old1 = ((stop_keeps_lem b d d1 p1 leaves (stopped_written p1 d)).denotes o).1 is.common.from
@@ -199,12 +209,18 @@ module _ (b : ℕ) (d : Sectors) (o : Option Layout) (p : Layout) (t : Table) (p
   new2 : Denotes b d2 (Some p)
   new2 =
       denotes_gpt b d2 p t is.copies.body (is.common.sectors ∙ sym n2) isnt2 (room_of d2 n2)
-      (inr (zeros_no_copy b d2 size zeros2, record { room = room_of d2 n2; head = header_of b n t Backup; stands = second2 })) labels2
+      (inr (
+        shut_no_copy b n d2 between shut n2 there2,
+        record { room = room_of d2 n2; head = header_of b n t Backup; stands = second2 },
+      )) labels2
 
   new3 : Denotes b d3 (Some p)
   new3 =
       denotes_gpt b d3 p t is.copies.body (is.common.sectors ∙ sym n3) isnt3 (room_of d3 n3)
-      (inr (zeros_no_copy b d3 size zeros3, record { room = room_of d3 n3; head = header_of b n t Backup; stands = second3 })) labels3
+      (inr (
+        shut_no_copy b n d3 between shut n3 there3,
+        record { room = room_of d3 n3; head = header_of b n t Backup; stands = second3 },
+      )) labels3
 
   new4 : Denotes b d4 (Some p)
   new4 =
@@ -213,7 +229,7 @@ module _ (b : ℕ) (d : Sectors) (o : Option Layout) (p : Layout) (t : Table) (p
 
   calm3 : (s : ℕ) (x : List ℕ) → Puts primary_array s x → ¬ Reads b d2 s
   calm3 =
-      closed_misses_low b d2 p primary_array size isnt2 (room_of d2 n2) zeros2 new2
+      shut_misses_low b d2 p primary_array size isnt2 (room_of d2 n2) (λ h is_head. shut d2 h n2 there2 is_head) new2
       (λ s at. (mid s (subst (λ (m : ℕ). IsPlace (places_of b m p.body) s) (n2 ∙ sym is.common.sectors) at)).0) low
 
   both4 : HasBoth b n d4 p t
@@ -222,37 +238,60 @@ module _ (b : ℕ) (d : Sectors) (o : Option Layout) (p : Layout) (t : Table) (p
   above : (s : ℕ) → IsPlace (places_of b p.sectors p.body) s → array_len b + 2 ≤ s
   above s at = (mid s at).0
 
-  ends : IsHealthy b (after planned d) p
-  ends =
+  pub high_first : (s : ℕ) (x : List ℕ) → Puts p1 s x → (2 ≤ s) × (array_len b + 2 ≤ s)
+  high_first s x puts = let at = high s x puts in (omega (arith, at), at)
+
+  pub some : 1 < length d
+  some = omega (arith, room)
+
+  pub end_healthy : IsHealthy b (after is.last d4) p
+  end_healthy =
       last_written b n p t size is.copies.body is.common.sectors room is.common.sound above d4 (sector d 0) is.last n4 both4
       (same4 ∙ same3 ∙ same2 ∙ same1) is.protects
 
-  walk : Turns (Denotes b) (Reads b) 1 planned d o (Some p)
-  walk = (
-    is.common.from,
-    inr leaves,
-    (
-      old1,
-      inl (omega arith),
-      (
-        new2,
-        inr calm3,
-        (
-          new3,
-          inl (omega arith),
-          last_stays b n p t size is.copies.body is.common.sectors room is.common.sound above d4
-              (sector d 0) is.last n4 both4 new4 is.protects,
-        ),
-      ),
-    ),
-  )
+  pub end_denotes : Denotes b d4 (Some p)
+  end_denotes = new4
+
+  pub backup_first_walk : BackupFirstWalk d p1 primary_array between is.copies.primary is.last (array_len b + 2) some low high_first
+      (Denotes b) (Reads b) o (Some p) (denotes_one_lem b)
+  backup_first_walk = record {
+    from = is.common.from;
+    calm = inr leaves;
+    old1 = old1;
+    new2 = new2;
+    calm3 = inr calm3;
+    new3 = new3;
+    rest = last_stays b n p t size is.copies.body is.common.sectors room is.common.sound above d4 (sector d 0) is.last n4 both4 new4
+        is.protects;
+  }
+
+  -- each label place ends as it is to
+  pub end_labels : (s : ℕ) (v : List ℕ) → IsPlace (places_of b p.sectors p.body) s → ComesToHold d is.copies.labels s v
+      → sector (after is.last d4) s ≡ v
+  end_labels s v at ends =
+      let m = mid s at in
+      last_misses n (sector d 0) is.last d4 s (omega (arith, m.0)) is.protects
+      ∙ misses d3 primary_header s (λ x puts. (let one = one_is 1 s is.copies.primary x puts in omega (arith, one, m.0)))
+      ∙ misses d2 primary_array s (λ x puts. (let one = low s x puts in omega (arith, one.1, m.0)))
+      ∙ misses d1 meanwhile s (λ x puts. (let one = one_is 1 s between x puts in omega (arith, one, m.0)))
+      ∙ ended1 s v at ends
+
+-- ## The plan that zeroes the primary header.
+
+module _ (b : ℕ) (d : Sectors) (o : Option Layout) (p : Layout) (t : Table) (phases : List Writes) (size : IsSectorSize b)
+    (is : IsBackupFirst b d o p t phases) where
+  abbrev planned : List Writes
+  planned = backup_first_phases b (length d) t is.copies.primary is.copies.backup is.copies.labels is.last
+
+  zeros : Shut b (length d) (replicate b 0)
+  zeros = zeros_shut b (length d) size
 
   good : Each (IsGood b d p) planned
   good = (
     λ s x puts. ⊎_elim
         (λ label. label_good b d o p t size is.common.sound is.common.sectors is.copies s x label)
         (λ back. backup_good b d o p t size is.common.sound is.common.sectors is.copies s x back)
-        (puts_split is.copies.labels backup_writes s x puts),
+        (puts_split is.copies.labels (backup_phase b (length d) t is.copies.backup) s x puts),
     (
       one_good b d o p t size is.common.sound is.common.sectors is.copies (replicate b 0),
       (
@@ -265,18 +304,87 @@ module _ (b : ℕ) (d : Sectors) (o : Option Layout) (p : Layout) (t : Table) (p
     ),
   )
 
-  pub backup_first_lands : Lands b d o p phases 2
-  backup_first_lands = landed b d o p phases planned 1 is.common is.is
-      (few_enough b d o p t size is.common.sound is.common.sectors is.copies _ (backup_first_count b d o p t phases is)) good walk ends
+  count : length (writes_in planned) ≤ most_writes
+  count = few_enough b d o p t size is.common.sound is.common.sectors is.copies _ (backup_first_count b d o p t phases is)
 
-  -- each label place ends as it is to
+  pub backup_first_lands : Lands b d o p phases 2
+  backup_first_lands = landed b d o p phases planned 1 is.common is.is count good
+      (backup_first_turns _ _ _ _ _ _ _ _ _ _ _ _ _ _ _ (backup_first_walk b d o p t phases size is (replicate b 0) zeros))
+      (end_healthy b d o p t phases size is (replicate b 0) zeros)
+
   pub backup_first_ended : (s : ℕ) (v : List ℕ) → IsPlace (places_of b p.sectors p.body) s → ComesToHold d is.copies.labels s v
       → sector (after phases d) s ≡ v
-  backup_first_ended s v at ends =
-      let m = mid s at in
-      ap (λ (ps : List Writes). sector (after ps d) s) is.is
-      ∙ last_misses n (sector d 0) is.last d4 s (omega (arith, m.0)) is.protects
-      ∙ misses d3 primary_header s (λ x puts. (let one = one_is 1 s is.copies.primary x puts in omega (arith, one, m.0)))
-      ∙ misses d2 primary_array s (λ x puts. (let one = low s x puts in omega (arith, one.1, m.0)))
-      ∙ misses d1 (closing b) s (λ x puts. (let one = one_is 1 s (replicate b 0) x puts in omega (arith, one, m.0)))
-      ∙ ended1 s v at ends
+  backup_first_ended s v at ends = ap (λ (ps : List Writes). sector (after ps d) s) is.is
+      ∙ end_labels b d o p t phases size is (replicate b 0) zeros s v at ends
+
+  -- ## The plan that keeps the primary copy.
+
+  fine : Each (λ s v. IsGood b d p s v × ¬ OwnedOf b o s) planned
+  fine = each_both (IsGood b d p) (λ s v. ¬ OwnedOf b o s) planned good (put_each (λ s v. ¬ OwnedOf b o s) planned
+      (λ s v puts. is.common.free s v (subst (λ (ps : List Writes). Puts (writes_in ps) s v) (sym is.is) puts)))
+
+  module _ (kept_phases : List Writes) (kept : KeepsBackupFirst b d o p t phases is kept_phases) where
+    pub bridge_stays_shut : Shut b (length d) kept.bridge
+    bridge_stays_shut = bridge_shut b (length d) is.copies.backup kept.bridge (header_of b (length d) t Backup) is.copies.fits.room
+        is.copies.is_backup.header refl kept.is_bridge
+
+    -- a disk with a primary copy has no such header
+    pub bridge_is_new : ¬ AllStand d (one_write 1 kept.bridge)
+    bridge_is_new all =
+        shut_no_copy b (length d) d kept.bridge bridge_stays_shut refl (all 1 kept.bridge (inl (refl, refl))) is.has_primary
+
+    abbrev end : Sectors
+    end = after is.last (d4 b d o p t phases size is kept.bridge bridge_stays_shut)
+
+    after_kept : after kept_phases d ≡ end
+    after_kept = ap (λ (ps : List Writes). after ps d) kept.are
+        ∙ after_backup_first d (labels_and_backup b (length d) t is.copies.backup is.copies.labels) (array_phase b (length d) t Primary)
+        kept.bridge is.copies.primary is.last (array_len b + 2)
+        (some b d o p t phases size is kept.bridge bridge_stays_shut) (low b d o p t phases size is kept.bridge bridge_stays_shut)
+        (high_first b d o p t phases size is kept.bridge bridge_stays_shut)
+        kept.front kept.middle kept.is_front bridge_is_new kept.is_middle
+
+    goes : Goes (Denotes b) (Reads b) (length kept.front + 1) (kept.front ++ (kept.middle ++ is.last)) d o (Some p)
+    goes = backup_first_goes d (labels_and_backup b (length d) t is.copies.backup is.copies.labels) (array_phase b (length d) t Primary)
+        kept.bridge is.copies.primary is.last (array_len b + 2)
+        (some b d o p t phases size is kept.bridge bridge_stays_shut) (low b d o p t phases size is kept.bridge bridge_stays_shut)
+        (high_first b d o p t phases size is kept.bridge bridge_stays_shut) (Denotes b) (Reads b) o (Some p) (denotes_one_lem b)
+        (backup_first_walk b d o p t phases size is kept.bridge bridge_stays_shut)
+        (end_denotes b d o p t phases size is kept.bridge bridge_stays_shut)
+        kept.front kept.middle kept.is_front bridge_is_new kept.is_middle
+
+    fine_kept : Each (λ s v. IsGood b d p s v × ¬ OwnedOf b o s) (kept.front ++ (kept.middle ++ is.last))
+    fine_kept =
+        let P : ℕ → List ℕ → Type 0 = λ s v. IsGood b d p s v × ¬ OwnedOf b o s in
+        each_append P kept.front (kept.middle ++ is.last) (each_needed P d _ kept.front fine.0 kept.is_front)
+        (each_append P kept.middle is.last
+        (each_primary P d _ _ _ kept.middle
+        (λ s x puts. (
+          one_good b d o p t size is.common.sound is.common.sectors is.copies kept.bridge s x puts,
+          (fine.1.0 s (replicate b 0) (inl (sym (one_is 1 s kept.bridge x puts), refl))).1,
+        ))
+        fine.1.1.0 fine.1.1.1.0 kept.is_middle)
+        fine.1.1.1.1)
+
+    few : length (writes_in (kept.front ++ (kept.middle ++ is.last))) ≤ most_writes
+    few =
+        let p1 = labels_and_backup b (length d) t is.copies.backup is.copies.labels in
+        let array = array_phase b (length d) t Primary in
+        let one = count_append kept.front (kept.middle ++ is.last) in
+        let two = count_append kept.middle is.last in
+        let three = count_needed d p1 kept.front kept.is_front in
+        let four = count_primary d (one_write 1 kept.bridge) array (one_write 1 is.copies.primary) kept.middle kept.is_middle in
+        let five = length-append p1 (one_write 1 (replicate b 0) ++ (array ++ (one_write 1 is.copies.primary ++ writes_in is.last))) in
+        let six = length-append array (one_write 1 is.copies.primary ++ writes_in is.last) in
+        omega (arith, one, two, three, four, five, six, count)
+
+    pub kept_backup_first_lands : Lands b d o p kept_phases (length kept.front + 1)
+    kept_backup_first_lands = subst (λ (ps : List Writes). Lands b d o p ps (length kept.front + 1)) (sym kept.are)
+        (landed_fine b d o p phases (kept.front ++ (kept.middle ++ is.last)) (length kept.front + 1) is.common few fine_kept goes
+        (subst (λ (c : Sectors). IsHealthy b c p) (sym (ap (λ (ps : List Writes). after ps d) (sym kept.are) ∙ after_kept))
+        (end_healthy b d o p t phases size is kept.bridge bridge_stays_shut)))
+
+    pub kept_backup_first_ended : (s : ℕ) (v : List ℕ) → IsPlace (places_of b p.sectors p.body) s → ComesToHold d is.copies.labels s v
+        → sector (after kept_phases d) s ≡ v
+    kept_backup_first_ended s v at ends = ap (λ (c : Sectors). sector c s) after_kept
+        ∙ end_labels b d o p t phases size is kept.bridge bridge_stays_shut s v at ends

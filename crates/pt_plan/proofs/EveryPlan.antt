@@ -1,5 +1,5 @@
 -- Every plan lands, is accepted, and ends as it has to.
-use Rattle.std.proofs.Common.{◌≡◌, ℕ, List, [], ◌++◌, refl, sym, ap, subst, Option, Some, inl, length, arith, None, ◌∙◌, ⊎_elim}
+use Rattle.std.proofs.Common.{◌≡◌, ℕ, List, [], ◌++◌, ◌+◌, refl, sym, ap, subst, Option, Some, inl, length, arith, None, ◌∙◌, ⊎_elim}
 use Rattle.std.specs.Prelude.{Contains}
 use Rattle.pt_sector.specs.Sectors.{Sectors, sector, IsSectorSize, Writes, after, Puts}
 use Rattle.pt_bsd.specs.declared.label.Label.{Label}
@@ -9,8 +9,8 @@ use Rattle.pt_members.specs.Members.{places_of, place_of, IsPlace}
 use Rattle.pt_members.specs.declared.layout.Layout.{Layout}
 use Rattle.pt_members.specs.declared.layout.Slice.{Slice}
 use Rattle.pt_members.specs.Tables.{HasFour}
-use Rattle.pt_plan.proofs.BackupFirst.{backup_first_ended, backup_first_lands}
-use Rattle.pt_plan.proofs.PrimaryFirst.{primary_first_ended, primary_first_lands}
+use Rattle.pt_plan.proofs.BackupFirst.{backup_first_ended, backup_first_lands, kept_backup_first_ended, kept_backup_first_lands}
+use Rattle.pt_plan.proofs.PrimaryFirst.{primary_first_ended, primary_first_lands, kept_primary_first_ended, kept_primary_first_lands}
 use Rattle.pt_plan.proofs.FromMbr.{from_mbr_ended, from_mbr_lands}
 use Rattle.pt_plan.proofs.OneLabel.{one_label_ended, one_label_lands}
 use Rattle.pt_plan.proofs.WithinMbr.{within_mbr_ended, within_mbr_lands}
@@ -22,7 +22,10 @@ use Rattle.pt_cases.proofs.Frames.{is_place}
 use Rattle.pt_cases.proofs.MetLemmas.{labels_set_met}
 use Rattle.pt_cases.proofs.Ascending.{places_ascend_lem}
 use Rattle.pt_cases.proofs.Along.{along_label}
-use Rattle.pt_plan.specs.Commits.{HoldsTarget, Lands, turn_of}
+use Rattle.pt_cases.specs.Kept.{IsPlanBy, KeptOf}
+use Rattle.pt_cases.specs.declared.primary.Primary.{Primary as Choice}
+use Rattle.pt_cases.specs.declared.primary.Primary.TheVariants.{Zeroed, Kept}
+use Rattle.pt_plan.specs.Commits.{HoldsTarget, Lands, turn_of, turn_of_kept, turn_by}
 use Rattle.pt_layout.specs.Healthy.{IsHealthy}
 use Rattle.pt_check.proofs.Accepted.{accepted_lem}
 use Rattle.pt_check.specs.Answers.{Answers}
@@ -71,32 +74,63 @@ module _ (b : ℕ) (d : Sectors) (o : Option Layout) (p : Layout) (phases : List
         held = ap (λ (ps : List Writes). sector (after ps d) (place_of w)) none;
       }
 
--- each label that is wanted stands at its place: as it stood, over the bytes of the one that was there, or over zeros
-pub plan_labels : (b : ℕ) (d : Sectors) (o : Option Layout) (p : Layout) (phases : List Writes) (w : Slice) (l : Label) → IsSectorSize b
+zeroed_labels : (b : ℕ) (d : Sectors) (o : Option Layout) (p : Layout) (phases : List Writes) (w : Slice) (l : Label) → IsSectorSize b
     → Denotes b d o → IsPlan b d p phases
     → Contains (places_of b p.sectors p.body) w → Contains p.labels (record { number = w.number; label = l }) → HoldsTarget b d o phases w l
-plan_labels b d o p phases w l size from (idle healthy none) stands wanted =
+zeroed_labels b d o p phases w l size from (idle healthy none) stands wanted =
     held_already b d o p phases w l stands wanted healthy.denotes (denotes_one_lem b d o (Some p) from healthy.denotes) none
-plan_labels b d o p phases w l size from (backup_first q t is) stands wanted =
+zeroed_labels b d o p phases w l size from (backup_first q t is) stands wanted =
     subst (λ (x : Option Layout). HoldsTarget b d x phases w l) (denotes_one_lem b d q o is.common.from from)
     (held_by b d q p phases w l stands wanted is.copies.labels (subst HasFour (sym is.copies.body) tt)
     (labels_set_met b d q p is.copies.labels is.copies.writes) (backup_first_ended b d q p t phases size is))
-plan_labels b d o p phases w l size from (primary_first q t is) stands wanted =
+zeroed_labels b d o p phases w l size from (primary_first q t is) stands wanted =
     subst (λ (x : Option Layout). HoldsTarget b d x phases w l) (denotes_one_lem b d q o is.common.from from)
     (held_by b d q p phases w l stands wanted is.copies.labels (subst HasFour (sym is.copies.body) tt)
     (labels_set_met b d q p is.copies.labels is.copies.writes) (primary_first_ended b d q p t phases size is))
-plan_labels b d o p phases w l size from (from_mbr q t is) stands wanted =
+zeroed_labels b d o p phases w l size from (from_mbr q t is) stands wanted =
     subst (λ (x : Option Layout). HoldsTarget b d x phases w l) (denotes_one_lem b d q o is.common.from from)
     (held_by b d q p phases w l stands wanted is.copies.labels (subst HasFour (sym is.copies.body) tt)
     (labels_set_met b d q p is.copies.labels is.copies.writes) (from_mbr_ended b d q p t phases size is))
-plan_labels b d o p phases w l size from (one_label q t is) stands wanted =
+zeroed_labels b d o p phases w l size from (one_label q t is) stands wanted =
     subst (λ (x : Option Layout). HoldsTarget b d x phases w l) (denotes_one_lem b d q o is.common.from from)
     (held_by b d q p phases w l stands wanted (one_write is.loud.0 is.loud.1) (subst HasFour (sym is.body) tt) is.met
     (one_label_ended b d q p t phases size is))
-plan_labels b d o p phases w l size from (within_mbr q records chain is) stands wanted =
+zeroed_labels b d o p phases w l size from (within_mbr q records chain is) stands wanted =
     subst (λ (x : Option Layout). HoldsTarget b d x phases w l) (denotes_one_lem b d q o is.common.from from)
     (held_by b d q p phases w l stands wanted (is.quiet ++ one_write is.loud.0 is.loud.1)
     (subst HasFour (sym is.body) is.met.head.1.records.four) is.met.labels (within_mbr_ended b d q p records chain phases is))
+
+kept_labels : (b : ℕ) (d : Sectors) (o : Option Layout) (p : Layout) (full phases : List Writes) (w : Slice) (l : Label) → IsSectorSize b
+    → Denotes b d o → (plan : IsPlan b d p full) → KeptOf plan phases
+    → Contains (places_of b p.sectors p.body) w → Contains p.labels (record { number = w.number; label = l }) → HoldsTarget b d o phases w l
+kept_labels b d o p full phases w l size from (backup_first q t is) left stands wanted =
+    subst (λ (x : Option Layout). HoldsTarget b d x phases w l) (denotes_one_lem b d q o is.common.from from)
+    (held_by b d q p phases w l stands wanted is.copies.labels (subst HasFour (sym is.copies.body) tt)
+    (labels_set_met b d q p is.copies.labels is.copies.writes) (kept_backup_first_ended b d q p t full size is phases left))
+kept_labels b d o p full phases w l size from (primary_first q t is) left stands wanted =
+    subst (λ (x : Option Layout). HoldsTarget b d x phases w l) (denotes_one_lem b d q o is.common.from from)
+    (held_by b d q p phases w l stands wanted is.copies.labels (subst HasFour (sym is.copies.body) tt)
+    (labels_set_met b d q p is.copies.labels is.copies.writes) (kept_primary_first_ended b d q p t full size is phases left))
+kept_labels b d o p full phases w l size from (idle healthy none) same stands wanted =
+    subst (λ (ps : List Writes). HoldsTarget b d o ps w l) (sym same)
+    (zeroed_labels b d o p full w l size from (idle healthy none) stands wanted)
+kept_labels b d o p full phases w l size from (from_mbr q t is) same stands wanted =
+    subst (λ (ps : List Writes). HoldsTarget b d o ps w l) (sym same)
+    (zeroed_labels b d o p full w l size from (from_mbr q t is) stands wanted)
+kept_labels b d o p full phases w l size from (one_label q t is) same stands wanted =
+    subst (λ (ps : List Writes). HoldsTarget b d o ps w l) (sym same)
+    (zeroed_labels b d o p full w l size from (one_label q t is) stands wanted)
+kept_labels b d o p full phases w l size from (within_mbr q records chain is) same stands wanted =
+    subst (λ (ps : List Writes). HoldsTarget b d o ps w l) (sym same)
+    (zeroed_labels b d o p full w l size from (within_mbr q records chain is) stands wanted)
+
+-- each label that is wanted stands at its place: as it stood, over the bytes of the one that was there, or over zeros
+pub plan_labels : (b : ℕ) (d : Sectors) (o : Option Layout) (p : Layout) (phases : List Writes) (primary : Choice) (w : Slice) (l : Label)
+    → IsSectorSize b → Denotes b d o → IsPlanBy primary b d p phases
+    → Contains (places_of b p.sectors p.body) w → Contains p.labels (record { number = w.number; label = l }) → HoldsTarget b d o phases w l
+plan_labels b d o p phases Zeroed w l size from is stands wanted = zeroed_labels b d o p phases w l size from is stands wanted
+plan_labels b d o p phases Kept w l size from is stands wanted =
+    kept_labels b d o p is.full phases w l size from is.plan is.kept stands wanted
 
 -- ## Lemmas on specs/Commits.antt: every plan lands.
 
@@ -112,26 +146,49 @@ idle_lands b d o p from healthy =
       ends = healthy;
     }
 
--- a plan of a disk is accepted, whatever the disk denotes, and the disk is healthy after it, with the layout wanted
-pub plan_lands : (b : ℕ) (d : Sectors) (o : Option Layout) (p : Layout) (phases : List Writes) → IsSectorSize b → Denotes b d o
+zeroed_lands : (b : ℕ) (d : Sectors) (o : Option Layout) (p : Layout) (phases : List Writes) → IsSectorSize b → Denotes b d o
     → (is : IsPlan b d p phases) → Lands b d o p phases (turn_of is)
-plan_lands b d o p phases size from (idle healthy none) =
+zeroed_lands b d o p phases size from (idle healthy none) =
     subst (λ (ps : List Writes). Lands b d o p ps 0) (sym none) (idle_lands b d o p from healthy)
-plan_lands b d o p phases size from (backup_first q t is) =
+zeroed_lands b d o p phases size from (backup_first q t is) =
     subst (λ (x : Option Layout). Lands b d x p phases 2) (denotes_one_lem b d q o is.common.from from)
     (backup_first_lands b d q p t phases size is)
-plan_lands b d o p phases size from (primary_first q t is) =
+zeroed_lands b d o p phases size from (primary_first q t is) =
     subst (λ (x : Option Layout). Lands b d x p phases 3) (denotes_one_lem b d q o is.common.from from)
     (primary_first_lands b d q p t phases size is)
-plan_lands b d o p phases size from (from_mbr q t is) =
+zeroed_lands b d o p phases size from (from_mbr q t is) =
     subst (λ (x : Option Layout). Lands b d x p phases 2) (denotes_one_lem b d q o is.common.from from)
     (from_mbr_lands b d q p t phases size is)
-plan_lands b d o p phases size from (one_label q t is) =
+zeroed_lands b d o p phases size from (one_label q t is) =
     subst (λ (x : Option Layout). Lands b d x p phases 1) (denotes_one_lem b d q o is.common.from from)
     (one_label_lands b d q p t phases size is)
-plan_lands b d o p phases size from (within_mbr q records chain is) =
+zeroed_lands b d o p phases size from (within_mbr q records chain is) =
     subst (λ (x : Option Layout). Lands b d x p phases (length phases)) (denotes_one_lem b d q o is.common.from from)
     (within_mbr_lands b d q p records chain phases is)
+
+pub kept_lands : (b : ℕ) (d : Sectors) (o : Option Layout) (p : Layout) (full phases : List Writes) → IsSectorSize b → Denotes b d o
+    → (plan : IsPlan b d p full) → (left : KeptOf plan phases) → Lands b d o p phases (turn_of_kept phases plan left)
+kept_lands b d o p full phases size from (backup_first q t is) left =
+    subst (λ (x : Option Layout). Lands b d x p phases (length left.front + 1)) (denotes_one_lem b d q o is.common.from from)
+    (kept_backup_first_lands b d q p t full size is phases left)
+kept_lands b d o p full phases size from (primary_first q t is) left =
+    subst (λ (x : Option Layout). Lands b d x p phases (length left.middle)) (denotes_one_lem b d q o is.common.from from)
+    (kept_primary_first_lands b d q p t full size is phases left)
+kept_lands b d o p full phases size from (idle healthy none) same =
+    subst (λ (ps : List Writes). Lands b d o p ps 0) (sym same) (zeroed_lands b d o p full size from (idle healthy none))
+kept_lands b d o p full phases size from (from_mbr q t is) same =
+    subst (λ (ps : List Writes). Lands b d o p ps 2) (sym same) (zeroed_lands b d o p full size from (from_mbr q t is))
+kept_lands b d o p full phases size from (one_label q t is) same =
+    subst (λ (ps : List Writes). Lands b d o p ps 1) (sym same) (zeroed_lands b d o p full size from (one_label q t is))
+kept_lands b d o p full phases size from (within_mbr q records chain is) same =
+    subst (λ (ps : List Writes). Lands b d o p ps (length full)) (sym same)
+    (zeroed_lands b d o p full size from (within_mbr q records chain is))
+
+-- a plan of a disk is accepted, whatever the disk denotes, and the disk is healthy after it, with the layout wanted
+pub plan_lands : (b : ℕ) (d : Sectors) (o : Option Layout) (p : Layout) (phases : List Writes) (primary : Choice) → IsSectorSize b
+    → Denotes b d o → (is : IsPlanBy primary b d p phases) → Lands b d o p phases (turn_by primary b d p phases is)
+plan_lands b d o p phases Zeroed size from is = zeroed_lands b d o p phases size from is
+plan_lands b d o p phases Kept size from is = kept_lands b d o p is.full phases size from is.plan is.kept
 
 -- so its end is healthy, and no reason of the checker's holds against it
 from_of : (b : ℕ) (d : Sectors) (p : Layout) (phases : List Writes) → IsPlan b d p phases → (o : Option Layout) × Denotes b d o
@@ -142,15 +199,21 @@ from_of b d p phases (from_mbr o t is) = (o, is.common.from)
 from_of b d p phases (one_label o t is) = (o, is.common.from)
 from_of b d p phases (within_mbr o records chain is) = (o, is.common.from)
 
-pub plan_finishes : (b : ℕ) (d : Sectors) (p : Layout) (phases : List Writes) → IsSectorSize b → IsPlan b d p phases
-    → IsHealthy b (after phases d) p
-plan_finishes b d p phases size is = let from = from_of b d p phases is in (plan_lands b d from.0 p phases size from.1 is).ends
+pub from_by : (b : ℕ) (d : Sectors) (p : Layout) (phases : List Writes) (primary : Choice) → IsPlanBy primary b d p phases
+    → (o : Option Layout) × Denotes b d o
+from_by b d p phases Zeroed is = from_of b d p phases is
+from_by b d p phases Kept is = from_of b d p is.full is.plan
 
-pub plan_not_refused : (b : ℕ) (d : Sectors) (p : Layout) (phases : List Writes) (why : Why) → IsSectorSize b → IsPlan b d p phases
-    → ¬ Answers b d phases (No why)
-plan_not_refused b d p phases why size is against =
-    let from = from_of b d p phases is in
-    let lands = plan_lands b d from.0 p phases size from.1 is in
+pub plan_finishes : (b : ℕ) (d : Sectors) (p : Layout) (phases : List Writes) (primary : Choice) → IsSectorSize b
+    → IsPlanBy primary b d p phases → IsHealthy b (after phases d) p
+plan_finishes b d p phases primary size is =
+    let from = from_by b d p phases primary is in (plan_lands b d from.0 p phases primary size from.1 is).ends
+
+pub plan_not_refused : (b : ℕ) (d : Sectors) (p : Layout) (phases : List Writes) (primary : Choice) (why : Why) → IsSectorSize b
+    → IsPlanBy primary b d p phases → ¬ Answers b d phases (No why)
+plan_not_refused b d p phases primary why size is against =
+    let from = from_by b d p phases primary is in
+    let lands = plan_lands b d from.0 p phases primary size from.1 is in
     answer_is_one_lem b d phases (Yes lands.switch) (No why) lands.answers against
 
 -- ## A disk on which nothing is pending.

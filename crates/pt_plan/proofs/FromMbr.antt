@@ -15,7 +15,8 @@ use Rattle.pt_check.proofs.Walk.{Turns}
 use Rattle.pt_layout.proofs.Guarded.{reads_guarded}
 use Rattle.pt_cases.specs.Cases.{IsFromMbr, copies_and_labels, from_mbr_phases}
 use Rattle.pt_cases.specs.Writes.{header_of, array_phase, one_write, backup_phase, ComesToHold}
-use Rattle.pt_plan.proofs.Landings.{HasBoth, head_written, IsGood, Each, landed, few_enough, middle, label_middle, backup_high}
+use Rattle.pt_plan.proofs.Needing.{Each}
+use Rattle.pt_plan.proofs.Landings.{HasBoth, head_written, IsGood, landed, few_enough, middle, label_middle, backup_high}
 use Rattle.pt_plan.proofs.Landings.{primary_low, label_good, one_good, array_good, backup_good, head_good, backup_there, primary_there}
 use Rattle.pt_plan.proofs.Landings.{array_filled, labels_met, labels_end}
 use Rattle.pt_apply.proofs.Puts.{puts_split}

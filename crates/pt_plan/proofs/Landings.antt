@@ -1,8 +1,8 @@
 -- What a plan of any kind lands by, and what its phases end in.
 use Rattle.std.proofs.Common.{◌≡◌, ◌⊎◌, inl, inr, ⊎_elim, ℕ, zero, suc, ◌+◌, ◌<◌, ◌≤◌, List, [], ◌∷◌, length, take, refl, sym, subst}
-use Rattle.std.proofs.Common.{Option, Some, None, ◌∙◌, ap, arith, ◌-◌, replicate}
+use Rattle.std.proofs.Common.{Option, Some, None, ◌∙◌, ap, arith, ◌-◌}
 use Rattle.pt_sector.specs.Sectors.{Sectors, sector, Writes, Puts, written, after, IsSectorSize}
-use Rattle.pt_recover.specs.Denotes.{Denotes, Reads, IsMbrDisk, BodyIs, LabelsAre}
+use Rattle.pt_recover.specs.Denotes.{Denotes, Reads, IsMbrDisk}
 use Rattle.pt_members.specs.declared.layout.Layout.{Layout}
 use Rattle.pt_layout.specs.Healthy.{IsHealthy, NameEachOther, IsWhole, IsBodyWhole}
 use Rattle.pt_layout.proofs.Terms.{sound_frees_tables_lem}
@@ -12,36 +12,33 @@ use Rattle.pt_check.proofs.Accepted.{accepted_lem, got_puts}
 use Rattle.pt_check.specs.Answers.{InNoTable, InOwned, most_writes, IsPastLast, ChangesBoot, IsFit}
 use Rattle.pt_apply.specs.Plans.{writes_in, NoneIs}
 use Rattle.pt_check.proofs.Walk.{Stays, Turns, stays_is_course, turns_is_course}
+use Rattle.pt_plan.proofs.Needing.{Each, each_put, each_first}
+use Rattle.pt_plan.proofs.Walks.{Goes}
 use Rattle.pt_cases.specs.Cases.{Common, Copies}
-use Rattle.pt_apply.proofs.Puts.{puts_split}
 use Rattle.pt_plan.specs.Commits.{Lands}
 use Rattle.pt_sector.specs.inner.ForFields.{length-written}
 use Rattle.pt_mbr.specs.Records.{IsProtective}
 use Rattle.pt_mbr.proofs.Terms.{protective_is_borne}
-use Rattle.pt_gpt.specs.Copies.{array_len, CopyWith, SideReads, HasRoom, array_sector, HasCopy, SameSide}
+use Rattle.pt_gpt.specs.Copies.{array_len, CopyWith, SideReads, HasRoom, array_sector}
 use Rattle.pt_gpt.specs.declared.table.Table.{Table}
 use Rattle.pt_gpt.specs.declared.table.Side.{Side}
 use Rattle.pt_gpt.specs.declared.table.Side.TheVariants.{Primary, Backup}
 use Rattle.pt_members.specs.Members.{places_of, IsPlace}
-use Rattle.pt_members.specs.declared.layout.Body.TheVariants.{Gpt, Mbr}
+use Rattle.pt_members.specs.declared.layout.Body.TheVariants.{Gpt}
 use Rattle.pt_cases.specs.Writes.{header_of, one_write, Protects, array_phase, backup_phase, IsProtectedFrom, ComesToHold, LabelsMet}
-use Rattle.pt_cases.specs.Writes.{closing}
-use Rattle.pt_cases.proofs.Frames.{LabelsRight, misses, there_one, one_is, side_stands, labels_right, denotes_gpt, put_there, not_mbr}
-use Rattle.pt_cases.proofs.Frames.{labels_stand}
-use Rattle.pt_cases.proofs.Within.{side_within, zeros_no_copy}
+use Rattle.pt_cases.proofs.Frames.{LabelsRight, misses, there_one, one_is, side_stands, labels_right, denotes_gpt, put_there}
+use Rattle.pt_cases.proofs.Within.{side_within}
 use Rattle.pt_members.specs.declared.layout.Body.{Body}
 use Rattle.pt_cases.proofs.FewLemmas.{array_length, backup_length}
 use Rattle.pt_cases.specs.Keeps.{copies_bound}
 use Rattle.pt_cases.proofs.Stands.{place_usable}
 use Rattle.pt_cases.proofs.Sides.{puts_array, puts_backup, array_there, backup_header, backup_array, side_written}
 use Rattle.pt_cases.proofs.MetLemmas.{labels_set_met}
-use Rattle.pt_sector.proofs.Written.{agrees_written}
-use Rattle.pt_gpt.proofs.Terms.{side_reads_decide_lem}
 
 -- ## How a plan lands: that it is accepted, with which switch, and in what it ends.
 
 -- a walk that turns to the same layout stays
-stays_of : {L : Type 0} (denotes : Sectors → Option L → Type 0) (reads : Sectors → ℕ → Type 0) (k : ℕ) (ps : List Writes) (d : Sectors)
+pub stays_of : {L : Type 0} (denotes : Sectors → Option L → Type 0) (reads : Sectors → ℕ → Type 0) (k : ℕ) (ps : List Writes) (d : Sectors)
     (o n : Option L)
     → o ≡ n → Turns denotes reads k ps d o n → Stays denotes reads ps d o
 stays_of denotes reads k [] d o n same is = absurd is
@@ -55,16 +52,6 @@ pub record IsGood (b : ℕ) (d : Sectors) (p : Layout) (s : ℕ) (v : List ℕ) 
   pub boot : s ≡ 0 → take 440 v ≡ take 440 (sector d 0)
   pub table : IsTable b p s
 
--- of each write of these phases
-abbrev pub Each : (ℕ → List ℕ → Type 0) → List Writes → Type 0
-Each P [] = Unit {0}
-Each P (ws ∷ phases) = ((s : ℕ) (v : List ℕ) → Puts ws s v → P s v) × Each P phases
-
-pub each_put : (P : ℕ → List ℕ → Type 0) (phases : List Writes) → Each P phases → (s : ℕ) (v : List ℕ) → Puts (writes_in phases) s v → P s v
-each_put P [] each s v puts = absurd puts
-each_put P (ws ∷ phases) each s v puts =
-    ⊎_elim (λ here. each.0 s v here) (λ later. each_put P phases each.1 s v later) (puts_split ws (writes_in phases) s v puts)
-
 none_is : (P : ℕ × List ℕ → Type 0) (ws : Writes) → ((s : ℕ) (v : List ℕ) → Puts ws s v → ¬ P (s, v)) → NoneIs P ws
 none_is P ws never k w at = never w.0 w.1 (got_puts ws k w at)
 
@@ -72,7 +59,7 @@ module _ (b : ℕ) (d : Sectors) (o : Option Layout) (p : Layout) (phases : List
     (sound : Sound b p) (same_or : (o ≡ Some p) ⊎ ¬ (o ≡ Some p))
     (free : (s : ℕ) (v : List ℕ) → Puts (writes_in phases) s v → ¬ OwnedOf b o s) (few : length (writes_in phases) ≤ most_writes)
     (good : Each (IsGood b d p) phases)
-    (walk : Turns (Denotes b) (Reads b) turn phases d o (Some p)) (ends : IsHealthy b (after phases d) p) where
+    (walk : Goes (Denotes b) (Reads b) turn phases d o (Some p)) (ends : IsHealthy b (after phases d) p) where
   each : (s : ℕ) (v : List ℕ) → Puts (writes_in phases) s v → IsGood b d p s v
   each = each_put (IsGood b d p) phases good
 
@@ -92,36 +79,59 @@ module _ (b : ℕ) (d : Sectors) (o : Option Layout) (p : Layout) (phases : List
       (λ new. sound_frees_tables_lem b p s sound new (each s v puts).table)
       owned)
 
+  stayed : o ≡ Some p → Stays (Denotes b) (Reads b) phases d o → Lands b d o p phases turn
+  stayed same stays = record {
+    switch = 0;
+    told = inl (same, refl);
+    answers = accepted_lem b d phases o (Some p) None fit (record { from = from; to = ends.denotes })
+        (stays_is_course (Denotes b) (Reads b) phases d o (Some p) stays) placed unowned (p, ends);
+    ends = ends;
+  }
+
+  turned : (k : ℕ) → Turns (Denotes b) (Reads b) k phases d o (Some p) → (o ≡ Some p) ⊎ ¬ (o ≡ Some p) → Lands b d o p phases (k + 1)
+  turned k turns (inl same) = record {
+    switch = 0;
+    told = inl (same, refl);
+    answers = accepted_lem b d phases o (Some p) None fit (record { from = from; to = ends.denotes })
+        (stays_is_course (Denotes b) (Reads b) phases d o (Some p)
+        (stays_of (Denotes b) (Reads b) k phases d o (Some p) same turns)) placed unowned (p, ends);
+    ends = ends;
+  }
+  turned k turns (inr differ) = record {
+    switch = k + 1;
+    told = inr (differ, refl);
+    answers = accepted_lem b d phases o (Some p) (Some (k + 1)) fit (record { from = from; to = ends.denotes })
+        (turns_is_course (Denotes b) (Reads b) k phases d o (Some p) differ turns) placed unowned (p, ends);
+    ends = ends;
+  }
+
   -- a plan that walks well is accepted
-  lands : Lands b d o p phases (turn + 1)
-  lands = by_layout same_or
+  pub lands : Lands b d o p phases turn
+  lands = by_walk walk
     where
-      by_layout : (o ≡ Some p) ⊎ ¬ (o ≡ Some p) → Lands b d o p phases (turn + 1)
-      by_layout (inl same) = record {
-        switch = 0;
-        told = inl (same, refl);
-        answers = accepted_lem b d phases o (Some p) None fit (record { from = from; to = ends.denotes })
-            (stays_is_course (Denotes b) (Reads b) phases d o (Some p)
-            (stays_of (Denotes b) (Reads b) turn phases d o (Some p) same walk)) placed unowned (p, ends);
-        ends = ends;
-      }
-      by_layout (inr differ) = record {
-        switch = turn + 1;
-        told = inr (differ, refl);
-        answers = accepted_lem b d phases o (Some p) (Some (turn + 1)) fit (record { from = from; to = ends.denotes })
-            (turns_is_course (Denotes b) (Reads b) turn phases d o (Some p) differ walk) placed unowned (p, ends);
-        ends = ends;
-      }
+      by_walk : Goes (Denotes b) (Reads b) turn phases d o (Some p) → Lands b d o p phases turn
+      by_walk (inl (k, is, turns)) = subst (λ (j : ℕ). Lands b d o p phases j) is (turned k turns same_or)
+      by_walk (inr (same, stays)) =
+          stayed same (subst (λ (x : Option Layout). Stays (Denotes b) (Reads b) phases d x) (sym same) stays)
 
 -- so a plan of these phases lands
 pub landed : (b : ℕ) (d : Sectors) (o : Option Layout) (p : Layout) (phases planned : List Writes) (turn : ℕ) → Common b d o p phases
     → phases ≡ planned → length (writes_in planned) ≤ most_writes → Each (IsGood b d p) planned
     → Turns (Denotes b) (Reads b) turn planned d o (Some p) → IsHealthy b (after planned d) p → Lands b d o p phases (turn + 1)
 landed b d o p phases planned turn common is few good walk ends = subst (λ (ps : List Writes). Lands b d o p ps (turn + 1)) (sym is)
-    (lands b d o p planned turn common.from common.sound common.stays free few good walk ends)
+    (lands b d o p planned (turn + 1) common.from common.sound common.stays free few good (inl (turn, refl, walk)) ends)
   where
     free : (s : ℕ) (v : List ℕ) → Puts (writes_in planned) s v → ¬ OwnedOf b o s
     free s v puts = common.free s v (subst (λ (ps : List Writes). Puts (writes_in ps) s v) (sym is) puts)
+
+-- and of other phases, of writes of sectors that the plan writes too
+pub landed_fine : (b : ℕ) (d : Sectors) (o : Option Layout) (p : Layout) (full phases : List Writes) (turn : ℕ) → Common b d o p full
+    → length (writes_in phases) ≤ most_writes → Each (λ s v. IsGood b d p s v × ¬ OwnedOf b o s) phases
+    → Goes (Denotes b) (Reads b) turn phases d o (Some p) → IsHealthy b (after phases d) p → Lands b d o p phases turn
+landed_fine b d o p full phases turn common few fine walk ends =
+    lands b d o p phases turn common.from common.sound common.stays
+    (λ s v puts. (each_put (λ s v. IsGood b d p s v × ¬ OwnedOf b o s) phases fine s v puts).1) few
+    (each_first (IsGood b d p) (λ s v. ¬ OwnedOf b o s) phases fine) walk ends
 
 -- ## A disk with both copies of a table, right labels and a protective record is healthy.
 
@@ -323,50 +333,3 @@ module _ (b : ℕ) (d : Sectors) (o : Option Layout) (p : Layout) (t : Table) (s
   labels_end e s v count same at (inl puts) =
       let m = middle s at in put_there copies.labels e s v copies.writes.ascending (omega (arith, m.1, room, count)) puts
   labels_end e s v count same at (inr (is, never)) = misses e copies.labels s never ∙ same ∙ sym is
-
--- ## Closing a primary header that makes no copy.
-
--- closing a primary header that makes no copy changes nothing
-module _ (b : ℕ) (d : Sectors) (size : IsSectorSize b) (isnt : ¬ IsMbrDisk d) (room : HasRoom b (length d))
-    (no_first : ¬ HasCopy b d Primary) where
-  abbrev closed : Sectors
-  closed = written (closing b) d
-
-  n_closed : length closed ≡ length d
-  n_closed = length-written (closing b) d
-
-  pub isnt_closed : ¬ IsMbrDisk closed
-  isnt_closed =
-      not_mbr d closed n_closed (misses d (closing b) 0 (λ x puts. (let at = one_is 1 0 (replicate b 0) x puts in omega (arith, at)))) isnt
-
-  pub zeros_closed : sector closed 1 ≡ replicate b 0
-  zeros_closed = there_one d 1 (replicate b 0) (omega (arith, room))
-
-  same_backup : SameSide b Backup closed d
-  same_backup = side_reads_decide_lem b Backup closed d (agrees_written (SideReads b d Backup) d (closing b)
-      (λ s x reads puts. (let at = one_is 1 s (replicate b 0) x puts in
-      ⊎_elim (λ h. omega (arith, h, at, room)) (λ a. omega (arith, a.0, at, room)) (side_within b d Backup s size reads))))
-
-  body_there : (y : Body) → BodyIs b d y → BodyIs b closed y
-  body_there (Mbr records list) is = absurd (isnt is.0.0)
-  body_there (Gpt t) (plain, enough, inl copy) = absurd (no_first (t, copy))
-  body_there (Gpt t) (plain, enough, inr (none, copy)) =
-      (isnt_closed, omega (arith, enough, n_closed), inr (zeros_no_copy b closed size zeros_closed, (same_backup.copies t).1 copy))
-
-  body_back : (y : Body) → BodyIs b closed y → BodyIs b d y
-  body_back (Mbr records list) is = absurd (isnt_closed is.0.0)
-  body_back (Gpt t) (plain, enough, inl copy) = absurd (zeros_no_copy b closed size zeros_closed (t, copy))
-  body_back (Gpt t) (plain, enough, inr (none, copy)) = (isnt, room, inr (no_first, (same_backup.copies t).0 copy))
-
-  pub closed_keeps : (o : Option Layout) → ((l : Layout) → o ≡ Some l → ¬ IsPlace (places_of b (length d) l.body) 1) → Denotes b d o
-      → Denotes b closed o
-  closed_keeps None guard is = λ y y_is. is y (body_back y y_is)
-  closed_keeps (Some l) guard is = (
-    is.0 ∙ sym n_closed,
-    body_there l.body is.1,
-    subst (λ (n : ℕ). LabelsAre closed (places_of b n l.body) l.labels) (sym n_closed)
-        (labels_stand d closed (places_of b (length d) l.body) l.labels
-        (λ s at. misses d (closing b) s
-        (λ x puts. guard l refl (subst (λ (j : ℕ). IsPlace (places_of b (length d) l.body) j)
-        (one_is 1 s (replicate b 0) x puts) at))) is.2),
-  )

@@ -1,6 +1,6 @@
 -- What a commit and a repair that are done leave.
 use Rattle.std.specs.Prelude.{◌≡◌, ℕ, List, [], length, Option, Some, Ok, slice_index_or}
-use Rattle.std.proofs.Common.{◌∙◌, refl, sym, ap, subst, take, arith}
+use Rattle.std.proofs.Common.{◌∙◌, refl, sym, ap, subst, arith}
 use Rattle.std.proofs.lemmas.List.{take_all}
 use Rattle.pt_sector.specs.Sectors.{Sectors, Writes, Puts, Stopped, sector, after}
 use Rattle.pt_sector.specs.Device.{Told}
@@ -13,6 +13,7 @@ use Rattle.pt_members.specs.declared.layout.Layout.{Layout}
 use Rattle.pt_layout.specs.Healthy.{Healthy}
 use Rattle.pt_check.specs.Answers.{IsUnwritten}
 use Rattle.pt_check.proofs.Reading.{after-writes}
+use Rattle.pt_cases.specs.declared.primary.Primary.{Primary as Choice}
 use Rattle.pt_plan.specs.Batches.{Change, CommitsChange, Repairs, IsReadyChange, IsReadyToMend}
 use Rattle.pt_plan.proofs.Histories.{stopped_keeps}
 
@@ -30,17 +31,17 @@ done_stopped phases d = record {
       (sym (take_all (length phases) phases (omega arith))) (stopped_same (after phases d) (slice_index_or phases (length phases) []));
 }
 
-pub commit_leaves_lem : (b n : ℕ) (change : Change) (old new : Told) → CommitsChange b n change (Ok tt) old new
-    → (phases : List Writes) × IsReadyChange b n change old.seen phases
+pub commit_leaves_lem : (primary : Choice) (b n : ℕ) (change : Change) (old new : Told) → CommitsChange primary b n change (Ok tt) old new
+    → (phases : List Writes) × IsReadyChange primary b n change old.seen phases
     × ((s : ℕ) → IsUnwritten phases s → sector new.seen s ≡ sector old.seen s)
-commit_leaves_lem b n change old new did =
+commit_leaves_lem primary b n change old new did =
     let is = did.ends.3 in
     (is.phases, is.ready, λ s free. ap (λ (x : Sectors). sector x s) is.seen ∙ unwritten_stays is.phases old.seen s free)
 
-pub commit_keeps_lem : (b n : ℕ) (change : Change) (old new : Told) → CommitsChange b n change (Ok tt) old new
+pub commit_keeps_lem : (primary : Choice) (b n : ℕ) (change : Change) (old new : Told) → CommitsChange primary b n change (Ok tt) old new
     → (o : Option Layout) × (l : Layout) × Denotes b old.seen o × Denotes b new.seen (Some l)
     × Keeps (Denotes b) (Healthy b) (TableOf b) (OwnedOf b) o (Some l) old.seen new.seen
-commit_keeps_lem b n change old new did =
+commit_keeps_lem primary b n change old new did =
     let is = did.ends.3 in
     let r = is.ready in (
       r.old,
@@ -52,17 +53,17 @@ commit_keeps_lem b n change old new did =
           r.leads.from r.finished (after is.phases old.seen) (done_stopped is.phases old.seen)),
     )
 
-pub repair_leaves_lem : (b n : ℕ) (old new : Told) → Repairs b n (Ok tt) old new
-    → (phases : List Writes) × IsReadyToMend b old.seen phases
+pub repair_leaves_lem : (primary : Choice) (b n : ℕ) (old new : Told) → Repairs primary b n (Ok tt) old new
+    → (phases : List Writes) × IsReadyToMend primary b old.seen phases
     × ((s : ℕ) → IsUnwritten phases s → sector new.seen s ≡ sector old.seen s)
-repair_leaves_lem b n old new did =
+repair_leaves_lem primary b n old new did =
     let is = did.ends.3 in
     (is.phases, is.ready, λ s free. ap (λ (x : Sectors). sector x s) is.seen ∙ unwritten_stays is.phases old.seen s free)
 
-pub repair_keeps_lem : (b n : ℕ) (old new : Told) → Repairs b n (Ok tt) old new
+pub repair_keeps_lem : (primary : Choice) (b n : ℕ) (old new : Told) → Repairs primary b n (Ok tt) old new
     → (l : Layout) × Denotes b old.seen (Some l) × Denotes b new.seen (Some l)
     × Keeps (Denotes b) (Healthy b) (TableOf b) (OwnedOf b) (Some l) (Some l) old.seen new.seen
-repair_keeps_lem b n old new did =
+repair_keeps_lem primary b n old new did =
     let is = did.ends.3 in
     let r = is.ready in (
       r.layout,

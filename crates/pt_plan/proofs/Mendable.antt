@@ -1,5 +1,5 @@
 -- The steps before a repair's first write.
-use Rattle.std.proofs.Common.{◌≡◌, ℕ, List, [], Option, Some, None, Result, Ok, Err, IfErr, refl, sym, subst}
+use Rattle.std.proofs.Common.{◌≡◌, ◌∙◌, ℕ, List, [], Option, Some, None, Result, Ok, Err, IfErr, refl, sym, subst}
 use Rattle.pt_sector.specs.Sectors.{Sectors, IsSectorSize, Writes}
 use Rattle.pt_recover.specs.Denotes.{failure_in, Denotes}
 use Rattle.pt_recover.proofs.Terms.{denotes_one_lem}
@@ -8,10 +8,14 @@ use Rattle.pt_recover.specs.declared.error.NoTable.TheVariants as reason
 use Rattle.pt_members.specs.declared.layout.Layout.{Layout}
 use Rattle.pt_layout.specs.Healthy.{Healthy, IsHealthy}
 use Rattle.pt_plan.proofs.EveryPlan.{plan_finishes, plan_not_refused}
+use Rattle.pt_cases.specs.Kept.{IsPlanBy, KeptOf}
+use Rattle.pt_cases.specs.declared.primary.Primary.{Primary as Choice}
+use Rattle.pt_cases.specs.declared.primary.Primary.TheVariants.{Zeroed, Kept}
 use Rattle.pt_cases.specs.Cases.{IsPlan, idle, backup_first, primary_first, from_mbr, one_label, within_mbr}
 use Rattle.pt_cases.proofs.Mended.{repair_is_planned_lem, mendable_by_plan_lem}
 use Rattle.pt_planner.specs.PlanReads.{ReasonIs}
-use Rattle.pt_cases.specs.Unplanned.{IsUnmendableBy, IsFailure}
+use Rattle.pt_layout.specs.declared.sound.finding.Finding.{Finding}
+use Rattle.pt_cases.specs.Unplanned.{IsUnmendable, IsUnmendableBy, IsFailure}
 use Rattle.pt_cases.specs.declared.targets.error.PlanError.{PlanError}
 use Rattle.pt_cases.specs.declared.targets.error.PlanError.TheVariants as plan
 use Rattle.pt_plan.specs.Batches.{IsMendPlan, IsReadyToMend, IsMendRefusal}
@@ -22,29 +26,48 @@ use Rattle.pt_plan.specs.declared.error.CommitError.{CommitError}
 use Rattle.pt_plan.specs.declared.error.CommitError.TheVariants.{NoTable, Edit, Plan, Check, Device, Memory}
 
 -- of a disk that is healthy no plan for its layout has phases
-pub none_of_healthy : (b : ℕ) (d : Sectors) (o : Layout) (phases : List Writes) → Denotes b d (Some o) → IsPlan b d o phases
-    → Healthy b d → phases ≡ []
-none_of_healthy b d o phases from planned (p, well) =
-    by_case planned (subst (IsHealthy b d) (let same = denotes_one_lem b d (Some p) (Some o) well.denotes from in cc) well)
-  where
-    by_case : IsPlan b d o phases → IsHealthy b d o → phases ≡ []
-    by_case (idle healthy none) here = none
-    by_case (backup_first q t is) here = absurd (is.common.not_done here)
-    by_case (primary_first q t is) here = absurd (is.common.not_done here)
-    by_case (from_mbr q t is) here = absurd (is.common.not_done here)
-    by_case (one_label q t is) here = absurd (is.common.not_done here)
-    by_case (within_mbr q records chain is) here = absurd (is.common.not_done here)
+idle_plan : (b : ℕ) (d : Sectors) (o : Layout) (phases : List Writes) → IsPlan b d o phases → IsHealthy b d o → phases ≡ []
+idle_plan b d o phases (idle healthy none) here = none
+idle_plan b d o phases (backup_first q t is) here = absurd (is.common.not_done here)
+idle_plan b d o phases (primary_first q t is) here = absurd (is.common.not_done here)
+idle_plan b d o phases (from_mbr q t is) here = absurd (is.common.not_done here)
+idle_plan b d o phases (one_label q t is) here = absurd (is.common.not_done here)
+idle_plan b d o phases (within_mbr q records chain is) here = absurd (is.common.not_done here)
 
-module _ (b : ℕ) (d : Sectors) (size : IsSectorSize b) where
+idle_kept : (b : ℕ) (d : Sectors) (o : Layout) (full phases : List Writes) → (plan : IsPlan b d o full) → KeptOf plan phases
+    → IsHealthy b d o → phases ≡ []
+idle_kept b d o full phases (idle healthy none) same here = same ∙ none
+idle_kept b d o full phases (backup_first q t is) kept here = absurd (is.common.not_done here)
+idle_kept b d o full phases (primary_first q t is) kept here = absurd (is.common.not_done here)
+idle_kept b d o full phases (from_mbr q t is) same here = absurd (is.common.not_done here)
+idle_kept b d o full phases (one_label q t is) same here = absurd (is.common.not_done here)
+idle_kept b d o full phases (within_mbr q records chain is) same here = absurd (is.common.not_done here)
+
+pub none_of_healthy : (primary : Choice) (b : ℕ) (d : Sectors) (o : Layout) (phases : List Writes) → Denotes b d (Some o)
+    → IsPlanBy primary b d o phases → Healthy b d → phases ≡ []
+none_of_healthy primary b d o phases from planned (p, well) =
+    by_choice primary planned (subst (IsHealthy b d) (let same = denotes_one_lem b d (Some p) (Some o) well.denotes from in cc) well)
+  where
+    by_choice : (primary : Choice) → IsPlanBy primary b d o phases → IsHealthy b d o → phases ≡ []
+    by_choice Zeroed is here = idle_plan b d o phases is here
+    by_choice Kept is here = idle_kept b d o is.full phases is.plan is.kept here
+
+-- what a plan for its layout leads to can be mended
+mendable_by : (primary : Choice) (b : ℕ) (d : Sectors) (o : Layout) (phases : List Writes) (f : Finding) → IsSectorSize b
+    → Denotes b d (Some o) → IsPlanBy primary b d o phases → ¬ IsUnmendable b d o f
+mendable_by Zeroed b d o phases f size here is = mendable_by_plan_lem b d o phases f size here is
+mendable_by Kept b d o phases f size here is = mendable_by_plan_lem b d o is.full f size here is.plan
+
+module _ (primary : Choice) (b : ℕ) (d : Sectors) (size : IsSectorSize b) where
   -- a disk that denotes a layout
   module _ (old : Option Layout) (from : Denotes b d old) (o : Layout) (is : old ≡ Some o) where
     here : Denotes b d (Some o)
     here = subst (Denotes b d) is from
 
-    pub mend_planned : (phases : List Writes) → IsPlan b d o phases → IsMendPlan b d phases
+    pub mend_planned : (phases : List Writes) → IsPlanBy primary b d o phases → IsMendPlan primary b d phases
     mend_planned phases planned = record {
       layout = o;
-      mendable = record { from = here; may = λ f. mendable_by_plan_lem b d o phases f size here planned };
+      mendable = record { from = here; may = λ f. mendable_by primary b d o phases f size here planned };
       planned = planned;
     }
 
@@ -70,13 +93,13 @@ module _ (b : ℕ) (d : Sectors) (size : IsSectorSize b) where
     mend_refused_of (Err e) inside not = mend_refused e inside not
 
   -- a plan, once the checker accepts it, which it does
-  module _ (phases : List Writes) (is : IsMendPlan b d phases) where
-    pub ready_to_mend : IsSafe b d phases → IsReadyToMend b d phases
+  module _ (phases : List Writes) (is : IsMendPlan primary b d phases) where
+    pub ready_to_mend : IsSafe b d phases → IsReadyToMend primary b d phases
     ready_to_mend safe = record {
       layout = is.layout;
       mendable = is.mendable;
       planned = is.planned;
-      finished = (plan_finishes b d is.layout phases size is.planned).denotes;
+      finished = (plan_finishes b d is.layout phases primary size is.planned).denotes;
       switch = safe.switch;
       safe = safe.safe;
     }
@@ -85,7 +108,7 @@ module _ (b : ℕ) (d : Sectors) (size : IsSectorSize b) where
     not_safe_to_mend (NoTable r) none = absurd none
     not_safe_to_mend (Edit r) none = absurd none
     not_safe_to_mend (Plan e) none = absurd none
-    not_safe_to_mend (Check why) against = absurd (plan_not_refused b d is.layout phases why size is.planned against)
+    not_safe_to_mend (Check why) against = absurd (plan_not_refused b d is.layout phases primary why size is.planned against)
     not_safe_to_mend (Device fault) failed = tt
     not_safe_to_mend Memory failed = tt
 

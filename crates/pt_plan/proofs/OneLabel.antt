@@ -5,7 +5,7 @@ use Rattle.pt_sector.specs.Sectors.{Sectors, sector, IsSectorSize, Writes, Puts,
 use Rattle.pt_sector.specs.inner.ForFields.{length-written}
 use Rattle.pt_mbr.specs.Records.{IsProtective}
 use Rattle.pt_mbr.proofs.Terms.{protective_is_borne}
-use Rattle.pt_gpt.specs.Copies.{array_len, CopyWith, HasRoom}
+use Rattle.pt_gpt.specs.Copies.{array_len, Copy, CopyWith, HasRoom}
 use Rattle.pt_gpt.specs.declared.table.Table.{Table}
 use Rattle.pt_gpt.specs.declared.table.Side.TheVariants.{Primary, Backup}
 use Rattle.pt_recover.specs.Denotes.{Denotes, Reads, BodyIs, IsMbrDisk, LabelsAre}
@@ -19,7 +19,8 @@ use Rattle.pt_cases.specs.Cases.{IsOneLabel, ChangesLabels}
 use Rattle.pt_cases.specs.Writes.{one_write, LabelsMet, ComesToHold}
 use Rattle.pt_cases.proofs.Frames.{LabelsRight, misses, one_is, one_end, side_stands, denotes_gpt}
 use Rattle.pt_plan.specs.Commits.{Lands}
-use Rattle.pt_plan.proofs.Landings.{IsGood, Each, landed}
+use Rattle.pt_plan.proofs.Landings.{IsGood, landed}
+use Rattle.pt_plan.proofs.Needing.{Each}
 use Rattle.pt_cases.proofs.MetLemmas.{labels_met_right}
 use Rattle.pt_cases.proofs.Denoted.{table_fits}
 use Rattle.pt_cases.proofs.Stands.{place_usable}
@@ -130,6 +131,17 @@ module _ (b : ℕ) (d : Sectors) (o : Option Layout) (p : Layout) (t : Table) (p
         },
     tt,
   )
+
+  -- the primary copy stands on the disk before and after
+  pub one_label_copies : Copy b d Primary t × Copy b (written (one_write is.loud.0 is.loud.1) d) Primary t
+  one_label_copies = (
+    record { room = room; head = whole.primary; stands = whole.copies.first },
+    record { room = room_c; head = whole.primary; stands = first },
+  )
+
+  -- and the write is of no sector of its table
+  pub one_label_high : (s : ℕ) (x : List ℕ) → Puts (one_write is.loud.0 is.loud.1) s x → array_len b + 2 ≤ s
+  one_label_high s x puts = (put_mid s x puts).0
 
   pub one_label_lands : Lands b d o p phases 1
   one_label_lands = landed b d o p phases (ws ∷ []) 0 is.common is.is (omega arith) good walk ends

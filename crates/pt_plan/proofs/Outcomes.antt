@@ -13,6 +13,7 @@ use Rattle.pt_cases.specs.declared.targets.error.PlanError.{PlanError}
 use Rattle.pt_plan.specs.Commits.{Committed, Ready, Refuses, commit_fault_in}
 use Rattle.pt_plan.specs.Repairs.{Repaired, ReadyToMend, RefusesToMend}
 use Rattle.pt_plan.specs.Repairs.{repair_told}
+use Rattle.pt_plan.specs.Wanted.{as_repair}
 use Rattle.pt_plan.specs.inner.Commits.{MetRead, Begun, Written, unflushed, unplanned, unapplied, applied}
 use Rattle.pt_plan.specs.declared.error.CommitError.{CommitError}
 use Rattle.pt_plan.specs.declared.error.CommitError.TheVariants.{Device}
@@ -78,11 +79,6 @@ module _ {W : Type 0} (denotes : Sectors → Option Layout → Type 0) (reason :
       subst Is (sym is) (exits.at_done _ _ _ _ _ _ _ _ _ _ old run.mid run.mid seen run.flushed refl one run.phases run.ready new
       run.any_moment settled)
 
--- what a repair answers, by what its steps did
-abbrev pub told_of : Result Unit CommitError → Result Unit RepairError
-told_of (Ok x) = Ok x
-told_of (Err e) = Err (repair_told e)
-
 -- a repair whose plans these are
 module _ {W : Type 0} (denotes : Sectors → Option Layout → Type 0) (reason : Sectors → Reason → Type 0)
     (edited : Option Layout → W → Result Layout Refusal → Type 0) (plans : Sectors → Layout → List Writes → Type 0)
@@ -96,16 +92,16 @@ module _ {W : Type 0} (denotes : Sectors → Option Layout → Type 0) (reason :
   pub repaired : (result : Result Unit CommitError)
       → Written (ReadyToMend denotes plans unmendable healthy table owned)
       (λ d e. RefusesToMend denotes reason unmendable d (repair_told e)) result old new
-      → (answer : Result Unit RepairError) → answer ≡ told_of result
+      → (answer : Result Unit RepairError) → answer ≡ as_repair result
       → Repaired denotes reason edited plans unmendable healthy table owned answer old new
   repaired result (unflushed is failed) answer told =
-      subst IsRepaired (sym (told ∙ ap told_of is)) (mended.at_failed_flush _ _ _ _ _ _ _ _ Flush old new refl failed)
+      subst IsRepaired (sym (told ∙ ap as_repair is)) (mended.at_failed_flush _ _ _ _ _ _ _ _ Flush old new refl failed)
   repaired result (unplanned e is read flushed why) answer told =
-      subst IsRepaired (sym (told ∙ ap told_of is))
+      subst IsRepaired (sym (told ∙ ap as_repair is))
       (mended.at_refused _ _ _ _ _ _ _ _ old new new seen flushed refl (repair_told e) (told_read e read) why)
   repaired result (unapplied fault is run failed) answer told =
-      subst IsRepaired (sym (told ∙ ap told_of is)) (mended.at_failed _ _ _ _ _ _ _ _ old run.mid run.mid seen run.flushed refl one none
+      subst IsRepaired (sym (told ∙ ap as_repair is)) (mended.at_failed _ _ _ _ _ _ _ _ old run.mid run.mid seen run.flushed refl one none
       run.phases run.ready new run.any_moment fault failed)
   repaired result (applied is run settled reached) answer told =
-      subst IsRepaired (sym (told ∙ ap told_of is)) (mended.at_done _ _ _ _ _ _ _ _ old run.mid run.mid seen run.flushed refl one none
+      subst IsRepaired (sym (told ∙ ap as_repair is)) (mended.at_done _ _ _ _ _ _ _ _ old run.mid run.mid seen run.flushed refl one none
       run.phases run.ready new run.any_moment settled reached)

@@ -2,7 +2,7 @@
 use Rattle.std.proofs.Common.{◌≡◌, inl, inr, ⊎_elim, ℕ, zero, suc, ◌+◌, ◌-◌, ◌<◌, ◌≤◌, List, [], ◌∷◌, ◌++◌, length, replicate, refl, sym}
 use Rattle.std.proofs.Common.{subst, arith, Option, length-append}
 use Rattle.std.specs.Prelude.{◌≢◌, All, None}
-use Rattle.std.proofs.lemmas.List.Elements.{All-nil, All-cons}
+use Rattle.std.proofs.lemmas.List.Elements.{All-nil, All-cons, All-append}
 use Rattle.pt_sector.specs.Sectors.{Sectors, sector, IsSectorSize, Writes, Puts, IsAscending}
 use Rattle.pt_gpt.specs.Copies.{array_len, array_sector, HasRoom}
 use Rattle.pt_gpt.specs.declared.entry.Entry.{Entry}
@@ -18,6 +18,10 @@ use Rattle.pt_cases.proofs.Frames.{puts_at, rises_in_tail, one_is}
 use Rattle.pt_plan.proofs.Landings.{label_middle, primary_low, backup_high, array_few, backup_few}
 use Rattle.pt_cases.proofs.Select.{Rises, rises_ascends}
 use Rattle.pt_cases.proofs.Sides.{puts_array}
+use Rattle.pt_cases.specs.Kept.{IsPlanBy, KeptOf}
+use Rattle.pt_cases.specs.declared.primary.Primary.{Primary as Choice}
+use Rattle.pt_cases.specs.declared.primary.Primary.TheVariants.{Zeroed, Kept}
+use Rattle.pt_plan.proofs.Needing.{all_needed, all_primary}
 use Rattle.pt_plan.specs.Commits.{IsPhase}
 use Rattle.pt_recover.specs.Denotes.{Denotes}
 use Rattle.pt_plan.specs.Batches.{Words, Makes}
@@ -177,28 +181,64 @@ four_and v w x y last first second third fourth rest =
     (All-cons IsPhase x (y ∷ last) third
     (All-cons IsPhase y last fourth rest)))
 
--- each phase of a plan has writes, and they ascend
-pub plan_ascends_lem : (b : ℕ) (d : Sectors) (p : Layout) (phases : List Writes) → IsSectorSize b → IsPlan b d p phases → All IsPhase phases
-plan_ascends_lem b d p phases size (idle healthy none) = subst (All IsPhase) (sym none) (All-nil IsPhase)
-plan_ascends_lem b d p phases size (backup_first o t is) = subst (All IsPhase) (sym is.is)
+zeroed_ascends : (b : ℕ) (d : Sectors) (p : Layout) (phases : List Writes) → IsSectorSize b → IsPlan b d p phases → All IsPhase phases
+zeroed_ascends b d p phases size (idle healthy none) = subst (All IsPhase) (sym none) (All-nil IsPhase)
+zeroed_ascends b d p phases size (backup_first o t is) = subst (All IsPhase) (sym is.is)
     (four_and (labels_and_backup b (length d) t is.copies.backup is.copies.labels) (closing b) (array_phase b (length d) t Primary)
     (one_write 1 is.copies.primary) is.last
     (lower_is_phase b d o p t size is.common.sound is.common.sectors is.copies) (one_phase 1 (replicate b 0))
     (array_is_phase b d o p t size is.common.sound is.common.sectors is.copies) (one_phase 1 is.copies.primary)
     (last_phases (length d) (sector d 0) is.last is.protects))
-plan_ascends_lem b d p phases size (primary_first o t is) = subst (All IsPhase) (sym is.is)
+zeroed_ascends b d p phases size (primary_first o t is) = subst (All IsPhase) (sym is.is)
     (four_and (closing b) (primary_and_labels b (length d) t is.copies.labels) (one_write 1 is.copies.primary)
     (backup_phase b (length d) t is.copies.backup) is.last
     (one_phase 1 (replicate b 0)) (middle_is_phase b d o p t size is.common.sound is.common.sectors is.copies)
     (one_phase 1 is.copies.primary) (backup_is_phase b d o p t size is.common.sound is.common.sectors is.copies)
     (last_phases (length d) (sector d 0) is.last is.protects))
-plan_ascends_lem b d p phases size (from_mbr o t is) = subst (All IsPhase) (sym is.is)
+zeroed_ascends b d p phases size (from_mbr o t is) = subst (All IsPhase) (sym is.is)
     (All-cons IsPhase (copies_and_labels b (length d) t is.copies.primary is.copies.backup is.copies.labels) (one_write 0 is.head ∷ [])
     (copies_are_phase b d o p t size is.common.sound is.common.sectors is.copies)
     (All-cons IsPhase (one_write 0 is.head) [] (one_phase 0 is.head) (All-nil IsPhase)))
-plan_ascends_lem b d p phases size (one_label o t is) = subst (All IsPhase) (sym is.is)
+zeroed_ascends b d p phases size (one_label o t is) = subst (All IsPhase) (sym is.is)
     (All-cons IsPhase (one_write is.loud.0 is.loud.1) [] (one_phase is.loud.0 is.loud.1) (All-nil IsPhase))
-plan_ascends_lem b d p phases size (within_mbr o records chain is) = within_phases is.quiet is.loud phases is.ascending is.is
+zeroed_ascends b d p phases size (within_mbr o records chain is) = within_phases is.quiet is.loud phases is.ascending is.is
+
+kept_ascends : (b : ℕ) (d : Sectors) (p : Layout) (full phases : List Writes) → IsSectorSize b → (plan : IsPlan b d p full)
+    → KeptOf plan phases → All IsPhase phases
+kept_ascends b d p full phases size (backup_first o t is) kept =
+    subst (All IsPhase) (sym kept.are)
+    (All-append IsPhase kept.front (kept.middle ++ is.last)
+    (all_needed IsPhase d (labels_and_backup b (length d) t is.copies.backup is.copies.labels) kept.front
+    (lower_is_phase b d o p t size is.common.sound is.common.sectors is.copies) kept.is_front)
+    (All-append IsPhase kept.middle is.last
+    (all_primary IsPhase d (one_write 1 kept.bridge) (array_phase b (length d) t Primary) (one_write 1 is.copies.primary) kept.middle
+    (one_phase 1 kept.bridge) (array_is_phase b d o p t size is.common.sound is.common.sectors is.copies)
+    (one_phase 1 is.copies.primary) kept.is_middle)
+    (last_phases (length d) (sector d 0) is.last is.protects)))
+kept_ascends b d p full phases size (primary_first o t is) kept =
+    subst (All IsPhase) (sym kept.are)
+    (All-append IsPhase kept.middle (kept.back ++ is.last)
+    (all_primary IsPhase d (one_write 1 kept.opening) (primary_and_labels b (length d) t is.copies.labels) (one_write 1 is.copies.primary)
+    kept.middle (one_phase 1 kept.opening) (middle_is_phase b d o p t size is.common.sound is.common.sectors is.copies)
+    (one_phase 1 is.copies.primary) kept.is_middle)
+    (All-append IsPhase kept.back is.last
+    (all_needed IsPhase d (backup_phase b (length d) t is.copies.backup) kept.back
+    (backup_is_phase b d o p t size is.common.sound is.common.sectors is.copies) kept.is_back)
+    (last_phases (length d) (sector d 0) is.last is.protects)))
+kept_ascends b d p full phases size (idle healthy none) same =
+    subst (All IsPhase) (sym same) (zeroed_ascends b d p full size (idle healthy none))
+kept_ascends b d p full phases size (from_mbr o t is) same =
+    subst (All IsPhase) (sym same) (zeroed_ascends b d p full size (from_mbr o t is))
+kept_ascends b d p full phases size (one_label o t is) same =
+    subst (All IsPhase) (sym same) (zeroed_ascends b d p full size (one_label o t is))
+kept_ascends b d p full phases size (within_mbr o records chain is) same =
+    subst (All IsPhase) (sym same) (zeroed_ascends b d p full size (within_mbr o records chain is))
+
+-- each phase of a plan has writes, and they ascend
+pub plan_ascends_lem : (b : ℕ) (d : Sectors) (p : Layout) (phases : List Writes) (primary : Choice) → IsSectorSize b
+    → IsPlanBy primary b d p phases → All IsPhase phases
+plan_ascends_lem b d p phases Zeroed size is = zeroed_ascends b d p phases size is
+plan_ascends_lem b d p phases Kept size is = kept_ascends b d p is.full phases size is.plan is.kept
 
 -- ## What the steps of a commit answer.
 

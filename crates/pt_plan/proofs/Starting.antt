@@ -8,8 +8,9 @@ use Rattle.pt_recover.specs.declared.error.NoTable.TheVariants as reason
 use Rattle.pt_layout.specs.Healthy.{Healthy}
 use Rattle.pt_members.specs.Tables.{OwnedOf, TableOf}
 use Rattle.pt_plan.proofs.EveryPlan.{plan_finishes, plan_not_refused}
-use Rattle.pt_cases.specs.Cases.{IsPlan}
-use Rattle.pt_planner.specs.PlanReads.{ReasonIs, PlanReads}
+use Rattle.pt_cases.specs.Kept.{IsPlanBy}
+use Rattle.pt_cases.specs.declared.primary.Primary.{Primary as Choice}
+use Rattle.pt_planner.specs.PlanReads.{ReasonIs, PlanReadsBy}
 use Rattle.pt_cases.specs.Unplanned.{fault_in, Unplanned}
 use Rattle.pt_cases.specs.declared.targets.error.PlanError.{PlanError}
 use Rattle.pt_cases.specs.declared.targets.error.PlanError.TheVariants as plan
@@ -34,12 +35,13 @@ sectors_are b n d sized None is = refl
 sectors_are b n d sized (Some o) is = is.0 ∙ sized
 
 -- from the batch's start on
-module _ (b n : ℕ) (batch : Words) (d : Sectors) (sized : length d ≡ n) (o : Option Layout) (starts : StartsFrom b batch d o) (m : ℕ)
+module _ (primary : Choice) (b n : ℕ) (batch : Words) (d : Sectors) (sized : length d ≡ n) (o : Option Layout)
+    (starts : StartsFrom b batch d o) (m : ℕ)
     (same : m ≡ n) where
   here : sectors_in o m ≡ n
   here = ap (sectors_in o) same ∙ sectors_are b n d sized o starts.from
 
-  pub not_edited : (e : CommitError) → NotEdited b (sectors_in o m) o batch e → IsRefusal b n batch d e
+  pub not_edited : (e : CommitError) → NotEdited b (sectors_in o m) o batch e → IsRefusal primary b n batch d e
   not_edited (NoTable e) none = absurd none
   not_edited (Edit r) (other, is) = (o, starts.from, starts.may, subst (λ (k : ℕ). EditedBy b k o batch (Err r)) here is)
   not_edited (Plan e) none = absurd none
@@ -48,11 +50,12 @@ module _ (b n : ℕ) (batch : Words) (d : Sectors) (sized : length d ≡ n) (o :
   not_edited Memory is = tt
 
   module _ (l : Layout) (to : EditedBy b (sectors_in o m) o batch (Ok l)) where
-    leads : Leads (Denotes b) (IsReason b) FromNothing (ChangedBy b n) (IsPlan b) (Unplanned b) (Healthy b) (TableOf b) (OwnedOf b)
+    leads : Leads (Denotes b) (IsReason b) FromNothing (ChangedBy b n) (IsPlanBy primary b) (Unplanned b) (Healthy b) (TableOf b)
+        (OwnedOf b)
         (by_words batch) d o l
     leads = record { from = starts.from; may = starts.may; to = subst (λ (k : ℕ). EditedBy b k o batch (Ok l)) here to }
 
-    pub not_planned : (e : CommitError) → NotPlanned b d l e → IsRefusal b n batch d e
+    pub not_planned : (e : CommitError) → NotPlanned b d l e → IsRefusal primary b n batch d e
     not_planned (NoTable e) none = absurd none
     not_planned (Edit r) none = absurd none
     not_planned (Plan e) is = (o, l, leads, is)
@@ -60,11 +63,11 @@ module _ (b n : ℕ) (batch : Words) (d : Sectors) (sized : length d ≡ n) (o :
     not_planned (Device fault) is = tt
     not_planned Memory is = tt
 
-    pub planned : (phases : List Writes) → IsPlan b d l phases → IsPlanned b n batch d phases
+    pub planned : (phases : List Writes) → IsPlanBy primary b d l phases → IsPlanned primary b n batch d phases
     planned phases is = record { old = o; new = l; leads = leads; planned = is }
 
     -- what its plan reads
-    pub plan_read : (s : ℕ) → PlanReads b n l s → EditReads b n batch d s
+    pub plan_read : (s : ℕ) → PlanReadsBy primary b n l s → EditReads primary b n batch d s
     plan_read s reads = reading.plan o l starts.from leads.to reads
 
 -- what is reported of the planner's error carries the same fault, hides no failure, and says why there is no plan
@@ -93,23 +96,26 @@ unplanned_told b d l (plan.Device fault) is = tt
 unplanned_told b d l plan.Memory is = tt
 
 -- a plan is never refused by the checker
-pub not_safe : (b n : ℕ) (batch : Words) (d : Sectors) (phases : List Writes) → IsSectorSize b → IsPlanned b n batch d phases
-    → (e : CommitError) → NotSafe b d phases e → IsRefusal b n batch d e
-not_safe b n batch d phases size is (NoTable e) none = absurd none
-not_safe b n batch d phases size is (Edit r) none = absurd none
-not_safe b n batch d phases size is (Plan e) none = absurd none
-not_safe b n batch d phases size is (Check why) against = absurd (plan_not_refused b d is.new phases why size is.planned against)
-not_safe b n batch d phases size is (Device fault) failed = tt
-not_safe b n batch d phases size is Memory failed = tt
+pub not_safe : (primary : Choice) (b n : ℕ) (batch : Words) (d : Sectors) (phases : List Writes) → IsSectorSize b
+    → IsPlanned primary b n batch d phases
+    → (e : CommitError) → NotSafe b d phases e → IsRefusal primary b n batch d e
+not_safe primary b n batch d phases size is (NoTable e) none = absurd none
+not_safe primary b n batch d phases size is (Edit r) none = absurd none
+not_safe primary b n batch d phases size is (Plan e) none = absurd none
+not_safe primary b n batch d phases size is (Check why) against =
+    absurd (plan_not_refused b d is.new phases primary why size is.planned against)
+not_safe primary b n batch d phases size is (Device fault) failed = tt
+not_safe primary b n batch d phases size is Memory failed = tt
 
-pub ready : (b n : ℕ) (batch : Words) (d : Sectors) (phases : List Writes) → IsSectorSize b → IsPlanned b n batch d phases
-    → IsSafe b d phases → IsReady b n batch d phases
-ready b n batch d phases size is safe = record {
+pub ready : (primary : Choice) (b n : ℕ) (batch : Words) (d : Sectors) (phases : List Writes) → IsSectorSize b
+    → IsPlanned primary b n batch d phases
+    → IsSafe b d phases → IsReady primary b n batch d phases
+ready primary b n batch d phases size is safe = record {
   old = is.old;
   new = is.new;
   leads = is.leads;
   planned = is.planned;
-  finished = (plan_finishes b d is.new phases size is.planned).denotes;
+  finished = (plan_finishes b d is.new phases primary size is.planned).denotes;
   switch = safe.switch;
   safe = safe.safe;
 }
@@ -126,12 +132,13 @@ starts b batch d None None from is may = absurd is
 starts b batch d None (Some r) from is may = record { from = from; may = λ none. may }
 starts b batch d (Some l) r from is may = record { from = from; may = λ none. absurd cc }
 
-pub no_start : (b n : ℕ) (batch : Words) (d : Sectors) (o : Option Layout) (r : Option Reason) → Denotes b d o → ReasonIs b d o r
-    → (e : CommitError) → MayStart r (MakesTable batch.edits) (Err e) → IsRefusal b n batch d e
-no_start b n batch d o None from is e none = absurd none
-no_start b n batch d None (Some r) from is e (never, told) =
-    subst (IsRefusal b n batch d) (sym (told (reason_inside b d r is))) (from, is, never)
-no_start b n batch d (Some l) (Some r) from is e against = absurd is
+pub no_start : (primary : Choice) (b n : ℕ) (batch : Words) (d : Sectors) (o : Option Layout) (r : Option Reason) → Denotes b d o
+    → ReasonIs b d o r
+    → (e : CommitError) → MayStart r (MakesTable batch.edits) (Err e) → IsRefusal primary b n batch d e
+no_start primary b n batch d o None from is e none = absurd none
+no_start primary b n batch d None (Some r) from is e (never, told) =
+    subst (IsRefusal primary b n batch d) (sym (told (reason_inside b d r is))) (from, is, never)
+no_start primary b n batch d (Some l) (Some r) from is e against = absurd is
 
 -- no read failed where the words make no layout
 pub not_edited_nowhere : (b n : ℕ) (o : Option Layout) (batch : Words) (S : ℕ → Type 0) (e : CommitError) → NotEdited b n o batch e

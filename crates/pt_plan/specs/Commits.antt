@@ -11,7 +11,10 @@ use Rattle.pt_words.specs.declared.error.Refusal.{Refusal}
 use Rattle.pt_cases.specs.declared.targets.error.PlanError.{PlanError}
 use Rattle.pt_plan.specs.declared.error.CommitError.{CommitError}
 use Rattle.pt_plan.specs.declared.error.CommitError.TheVariants.{NoTable, Edit, Plan, Check, Device, Memory}
-use Rattle.std.proofs.Common.{length, ◌≤◌}
+use Rattle.std.proofs.Common.{length, ◌≤◌, ◌+◌}
+use Rattle.pt_cases.specs.Kept.{IsPlanBy, KeptOf}
+use Rattle.pt_cases.specs.declared.primary.Primary.{Primary as Choice}
+use Rattle.pt_cases.specs.declared.primary.Primary.TheVariants.{Zeroed, Kept}
 use Rattle.pt_cases.specs.Cases.{IsPlan, idle, backup_first, primary_first, from_mbr, one_label, within_mbr}
 use Rattle.pt_layout.specs.Healthy.{IsHealthy}
 use Rattle.pt_check.specs.Answers.{Answers, Promises}
@@ -166,6 +169,21 @@ turn_of (primary_first o t is) = 3
 turn_of (from_mbr o t is) = 2
 turn_of (one_label o t is) = 1
 turn_of {phases = phases} (within_mbr o records chain is) = length phases
+
+-- of a plan that keeps the primary copy: the first phase behind the backup copy, where that comes first; the last one of the primary
+-- copy, where that does
+abbrev pub turn_of_kept : {b : ℕ} {d : Sectors} {p : Layout} {full : List Writes} → (phases : List Writes) → (plan : IsPlan b d p full)
+    → KeptOf plan phases → ℕ
+turn_of_kept phases (backup_first o t is) kept = length kept.front + 1
+turn_of_kept phases (primary_first o t is) kept = length kept.middle
+turn_of_kept phases (idle healthy none) kept = 0
+turn_of_kept phases (from_mbr o t is) kept = 2
+turn_of_kept phases (one_label o t is) kept = 1
+turn_of_kept {full = full} phases (within_mbr o records chain is) kept = length full
+
+abbrev pub turn_by : (primary : Choice) (b : ℕ) (d : Sectors) (p : Layout) (phases : List Writes) → IsPlanBy primary b d p phases → ℕ
+turn_by Zeroed b d p phases is = turn_of is
+turn_by Kept b d p phases is = turn_of_kept phases is.plan is.kept
 
 -- ## How a plan lands: that it is accepted, with which switch, and in what it ends.
 

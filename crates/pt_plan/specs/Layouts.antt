@@ -4,11 +4,12 @@ use Rattle.pt_sector.specs.Sectors.{Sectors, Writes, after}
 use Rattle.pt_sector.specs.Device.{Told}
 use Rattle.pt_recover.specs.Denotes.{Denotes, TellsNothing, FailedInDisk, fault_in}
 use Rattle.pt_members.specs.declared.layout.Layout.{Layout}
-use Rattle.pt_cases.specs.Cases.{IsPlan}
-use Rattle.pt_plan.specs.Commits.{turn_of, Lands, commit_fault_in, HidesNoFailure}
+use Rattle.pt_cases.specs.Kept.{IsPlanBy}
+use Rattle.pt_cases.specs.declared.primary.Primary.{Primary as Choice}
+use Rattle.pt_plan.specs.Commits.{turn_by, Lands, commit_fault_in, HidesNoFailure}
 use Rattle.pt_plan.specs.declared.error.CommitError.{CommitError}
 use Rattle.pt_sector.specs.declared.disk.Fault.{Fault}
-use Rattle.pt_planner.specs.PlanReads.{MakeReads}
+use Rattle.pt_planner.specs.PlanReads.{MakeReadsBy}
 use Rattle.pt_plan.specs.Batches.{FailedInCommit, LayoutReads, CommitsChange, IsReadyChange, IsRefusedChange, to_layout}
 use Rattle.pt_plan.specs.declared.like_error.LikeError.{LikeError}
 use Rattle.pt_plan.specs.declared.like_error.LikeError.TheVariants.{OtherSize, Other, Disk}
@@ -20,24 +21,24 @@ use Rattle.pt_plan.specs.declared.finished.After.TheVariants as outcome
 -- ## Commits of a layout. It is a commit of the change to that layout.
 
 -- a commit of the layout to a disk of n sectors of b bytes
-abbrev pub CommitsLayout : ℕ → ℕ → Layout → Result Unit CommitError → Told → Told → Type 0
-CommitsLayout b n wanted = CommitsChange b n (to_layout wanted)
+abbrev pub CommitsLayout : Choice → ℕ → ℕ → Layout → Result Unit CommitError → Told → Told → Type 0
+CommitsLayout primary b n wanted = CommitsChange primary b n (to_layout wanted)
 
 -- a checked plan for the layout
-abbrev pub IsReadyFor : ℕ → ℕ → Layout → Sectors → List Writes → Type 0
-IsReadyFor b n wanted = IsReadyChange b n (to_layout wanted)
+abbrev pub IsReadyFor : Choice → ℕ → ℕ → Layout → Sectors → List Writes → Type 0
+IsReadyFor primary b n wanted = IsReadyChange primary b n (to_layout wanted)
 
 -- why there is none
-abbrev pub IsRefusalOf : ℕ → ℕ → Layout → Sectors → CommitError → Type 0
-IsRefusalOf b n wanted = IsRefusedChange b n (to_layout wanted)
+abbrev pub IsRefusalOf : Choice → ℕ → ℕ → Layout → Sectors → CommitError → Type 0
+IsRefusalOf primary b n wanted = IsRefusedChange primary b n (to_layout wanted)
 
 -- a plan for the layout, from what the disk denotes: the checker accepts it, with the switch of its kind, and the disk is healthy after
 -- it, with that layout
-pub record IsAccepted (b : ℕ) (wanted : Layout) (d : Sectors) (phases : List Writes) : Type 0 where
+pub record IsAccepted (primary : Choice) (b : ℕ) (wanted : Layout) (d : Sectors) (phases : List Writes) : Type 0 where
   pub old : Option Layout
   pub from : Denotes b d old
-  pub planned : IsPlan b d wanted phases
-  pub lands : Lands b d old wanted phases (turn_of planned)
+  pub planned : IsPlanBy primary b d wanted phases
+  pub lands : Lands b d old wanted phases (turn_by primary b d wanted phases planned)
 
 -- ## What a call tells that makes a disk like another one. Of the sectors, d are the disk's and e the other one's.
 
@@ -75,11 +76,11 @@ FailedInOther S (Other why) = FailedInDisk S why
 FailedInOther S (Disk error) = Unit {0}
 
 -- the sectors of the disk that a plan for the other one's layout reads, and those that a commit of that layout reads
-abbrev pub LikePlanReads : ℕ → Sectors → Sectors → ℕ → Type 0
-LikePlanReads b e d s = (wanted : Layout) × Denotes b e (Some wanted) × MakeReads b d wanted s
+abbrev pub LikePlanReads : Choice → ℕ → Sectors → Sectors → ℕ → Type 0
+LikePlanReads primary b e d s = (wanted : Layout) × Denotes b e (Some wanted) × MakeReadsBy primary b d wanted s
 
-abbrev pub LikeReads : ℕ → Sectors → Sectors → ℕ → Type 0
-LikeReads b e d s = (wanted : Layout) × Denotes b e (Some wanted) × LayoutReads b wanted d s
+abbrev pub LikeReads : Choice → ℕ → Sectors → Sectors → ℕ → Type 0
+LikeReads primary b e d s = (wanted : Layout) × Denotes b e (Some wanted) × LayoutReads primary b wanted d s
 
 -- an error of the other disk comes before anything is asked of the disk, and another size before anything is asked of either
 abbrev pub LeftAlone : {D E : Type 0} → D → D → E → E → LikeError → Type 0
@@ -88,30 +89,31 @@ LeftAlone old new other now_other (Other why) = new ≡ old
 LeftAlone old new other now_other (Disk error) = Unit {0}
 
 -- a plan of d for the layout that e denotes
-pub record IsLikePlan (b : ℕ) (e d : Sectors) (phases : List Writes) : Type 0 where
+pub record IsLikePlan (primary : Choice) (b : ℕ) (e d : Sectors) (phases : List Writes) : Type 0 where
   pub wanted : Layout
   pub denotes : Denotes b e (Some wanted)
-  pub accepted : IsAccepted b wanted d phases
+  pub accepted : IsAccepted primary b wanted d phases
 
 -- a checked one
-pub record IsReadyLike (b : ℕ) (e d : Sectors) (phases : List Writes) : Type 0 where
+pub record IsReadyLike (primary : Choice) (b : ℕ) (e d : Sectors) (phases : List Writes) : Type 0 where
   pub wanted : Layout
   pub denotes : Denotes b e (Some wanted)
-  pub ready : IsReadyFor b (length e) wanted d phases
+  pub ready : IsReadyFor primary b (length e) wanted d phases
 
 -- why there is none
-abbrev pub NotLike : ℕ → Sectors → Sectors → LikeError → Type 0
-NotLike b e d OtherSize = ¬ (length e ≡ length d)
-NotLike b e d (Other why) = TellsNothing b e why
-NotLike b e d (Disk error) = (wanted : Layout) × Denotes b e (Some wanted) × IsRefusalOf b (length e) wanted d error
+abbrev pub NotLike : Choice → ℕ → Sectors → Sectors → LikeError → Type 0
+NotLike primary b e d OtherSize = ¬ (length e ≡ length d)
+NotLike primary b e d (Other why) = TellsNothing b e why
+NotLike primary b e d (Disk error) = (wanted : Layout) × Denotes b e (Some wanted) × IsRefusalOf primary b (length e) wanted d error
 
 -- a commit of the layout that e denotes, of a disk that has as many sectors; where there is none, or the other disk has another size,
 -- the disk is as before
-abbrev pub BecomesLike : ℕ → Sectors → Result Unit LikeError → Told → Told → Type 0
-BecomesLike b e (Ok x) old new = (wanted : Layout) × Denotes b e (Some wanted) × CommitsLayout b (length e) wanted (Ok x) old new
-BecomesLike b e (Err (Disk error)) old new =
-    (wanted : Layout) × Denotes b e (Some wanted) × CommitsLayout b (length e) wanted (Err error) old new
-BecomesLike b e (Err error) old new = NotLike b e old.seen error × (new ≡ old)
+abbrev pub BecomesLike : Choice → ℕ → Sectors → Result Unit LikeError → Told → Told → Type 0
+BecomesLike primary b e (Ok x) old new =
+    (wanted : Layout) × Denotes b e (Some wanted) × CommitsLayout primary b (length e) wanted (Ok x) old new
+BecomesLike primary b e (Err (Disk error)) old new =
+    (wanted : Layout) × Denotes b e (Some wanted) × CommitsLayout primary b (length e) wanted (Err error) old new
+BecomesLike primary b e (Err error) old new = NotLike primary b e old.seen error × (new ≡ old)
 
 -- ## What a plan makes of a disk d with sectors of b bytes.
 

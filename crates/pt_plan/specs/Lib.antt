@@ -1,7 +1,9 @@
 pub mod Batches
 pub mod Commits
 pub mod Layouts
+pub mod Readers
 pub mod Repairs
 pub mod Sentences
 pub mod Sessions
+pub mod Wanted
 pub mod inner

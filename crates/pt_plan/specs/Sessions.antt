@@ -13,7 +13,8 @@ use Rattle.pt_plan.specs.declared.runs.sessions.Reply.TheVariants as reply
 use Rattle.pt_apply.specs.Plans.{Settled}
 use Rattle.pt_plan.specs.declared.repair_error.RepairError.{RepairError}
 use Rattle.pt_recover.specs.Denotes.{Denotes}
-use Rattle.pt_plan.specs.Batches.{Words, Change, ChangedBy, CommitsChange, Commits, Repairs, FailedInCommit, CommitReads, to_layout}
+use Rattle.pt_plan.specs.Batches.{Words, Change, ChangedBy, CommitsAny, Commits, RepairsAny, FailedInCommit, CommitReads, to_layout}
+use Rattle.pt_cases.specs.declared.primary.Primary.{Primary as Choice}
 use Rattle.pt_members.specs.declared.layout.Layout.{Layout}
 use Rattle.pt_plan.specs.declared.runs.sessions.Batch.{Batch}
 
@@ -274,22 +275,23 @@ abbrev pub batch_of : Batch → Words
 batch_of batch = record { edits = batch.edits.items; guids = batch.guids.items }
 
 -- a commit of the batch that answered so. Where a read failed, its sector is one that the commit reads
-abbrev pub CommitsByReads : ℕ → ℕ → Words → Result Unit CommitError → Told → Told → Type 0
-CommitsByReads b n batch result old new = Commits b n batch result old new × IfErr result (FailedInCommit (CommitReads b n batch old.seen))
+abbrev pub CommitsByReads : Choice → ℕ → ℕ → Words → Result Unit CommitError → Told → Told → Type 0
+CommitsByReads primary b n batch result old new =
+    Commits primary b n batch result old new × IfErr result (FailedInCommit (CommitReads primary b n batch old.seen))
 
 -- a session of batches on a disk of n sectors of b bytes
-abbrev pub SessionOf : ℕ → ℕ → List Words → List Reply → Told → Told → Type 0
-SessionOf b n = Session (Commits b n)
+abbrev pub SessionOf : Choice → ℕ → ℕ → List Words → List Reply → Told → Told → Type 0
+SessionOf primary b n = Session (Commits primary b n)
 
 -- the same, and where a read failed, its sector is one that the commit reads
-abbrev pub SessionByReads : ℕ → ℕ → List Words → List Reply → Told → Told → Type 0
-SessionByReads b n = Session (CommitsByReads b n)
+abbrev pub SessionByReads : Choice → ℕ → ℕ → List Words → List Reply → Told → Told → Type 0
+SessionByReads primary b n = Session (CommitsByReads primary b n)
 
 -- calls in order, on such a disk
 abbrev pub RunOf : ℕ → ℕ → List (Step Change) → Told → Told → Type 0
-RunOf b n = Ran (CommitsChange b n) (Repairs b n) (Applies b)
+RunOf b n = Ran (CommitsAny b n) (RepairsAny b n) (Applies b)
 
 -- the calls of a run on such a disk, after earlier ones, lost nothing of its history from o at any moment
 abbrev pub RunKeepsHistory : ℕ → ℕ → Option Layout → List (Past Change) → List (Step Change) → Told → Told → Type 0
 RunKeepsHistory b n o earlier steps =
-    KeepsHistory (CommitsChange b n) (Repairs b n) (Applies b) (Denotes b) (ChangedBy b n) o earlier (calls_of_all steps)
+    KeepsHistory (CommitsAny b n) (RepairsAny b n) (Applies b) (Denotes b) (ChangedBy b n) o earlier (calls_of_all steps)

@@ -6,6 +6,7 @@ ghost use Rattle.pt_sector.specs.Device.{Blames};
 ghost use Rattle.pt_sector.specs.Overlays.{OnlyReads};
 ghost use Rattle.pt_apply.specs.Plans.{phases_of, InRange};
 ghost use Rattle.pt_plan.specs.Batches.{Commits, IsPlanned, IsReady, IsRefusal, FailedInCommit, EditReads, CommitReads};
+ghost use Rattle.pt_cases.specs.declared.primary.Primary.TheVariants.{Zeroed};
 ghost use Rattle.pt_plan.specs.Commits.{commit_fault_in as fault_in, HidesNoFailure};
 
 use crate::error::CommitError;
@@ -15,6 +16,7 @@ use crate::writing::carry_out;
 use pt_apply::Plan;
 use pt_edit::Edit;
 use pt_guid::Guid;
+use pt_planner::Primary;
 use pt_sector::Disk;
 use std::alloc::Global;
 
@@ -30,16 +32,17 @@ pub fn plan_for<const B: usize, D: Disk<B>>(
     ensures same { OnlyReads D.Disk disk.old disk.new }
     ensures blames { Blames fault_in result (D.faults disk.old) (D.faults disk.new) }
     ensures place { D.tells → IfErr result
-        (FailedInCommit (EditReads B (D.count disk.old) (record { edits = edits.now; guids = guids.now }) (D.told disk.old).seen)) }
+        (FailedInCommit (EditReads Zeroed B (D.count disk.old) (record { edits = edits.now; guids = guids.now }) (D.told disk.old).seen)) }
     ensures hides { IfErr result HidesNoFailure }
     ensures in_range { IfOk result (InRange (D.count disk.old)) }
     ensures phases { IfOk result (λ plan. All (λ p. 0 < length p.items) plan.phases.items) }
     ensures planned { D.tells → IfOk result
-        (λ plan. IsPlanned B (D.count disk.old) (record { edits = edits.now; guids = guids.now }) (D.told disk.old).seen (phases_of plan)) }
+        (λ plan. IsPlanned Zeroed B (D.count disk.old) (record { edits = edits.now; guids = guids.now }) (D.told disk.old).seen
+        (phases_of plan)) }
     ensures refused { D.tells → IfErr result
-        (IsRefusal B (D.count disk.old) (record { edits = edits.now; guids = guids.now }) (D.told disk.old).seen) }
+        (IsRefusal Zeroed B (D.count disk.old) (record { edits = edits.now; guids = guids.now }) (D.told disk.old).seen) }
 {
-    plan_wanted(alloc, disk, &Wanted::Edited(edits, guids))
+    plan_wanted(alloc, disk, &Wanted::Edited(edits, guids), Primary::Zeroed)
 }
 
 /// The same plan, once the checker has accepted it. Nothing is flushed or written.
@@ -53,16 +56,18 @@ pub fn checked_plan_for<const B: usize, D: Disk<B>>(
     ensures same { OnlyReads D.Disk disk.old disk.new }
     ensures blames { Blames fault_in result (D.faults disk.old) (D.faults disk.new) }
     ensures place { D.tells → IfErr result
-        (FailedInCommit (CommitReads B (D.count disk.old) (record { edits = edits.now; guids = guids.now }) (D.told disk.old).seen)) }
+        (FailedInCommit (CommitReads Zeroed B (D.count disk.old) (record { edits = edits.now; guids = guids.now })
+        (D.told disk.old).seen)) }
     ensures hides { IfErr result HidesNoFailure }
     ensures in_range { IfOk result (InRange (D.count disk.old)) }
     ensures phases { IfOk result (λ plan. All (λ p. 0 < length p.items) plan.phases.items) }
     ensures ready { D.tells → IfOk result
-        (λ plan. IsReady B (D.count disk.old) (record { edits = edits.now; guids = guids.now }) (D.told disk.old).seen (phases_of plan)) }
+        (λ plan. IsReady Zeroed B (D.count disk.old) (record { edits = edits.now; guids = guids.now }) (D.told disk.old).seen
+        (phases_of plan)) }
     ensures refused { D.tells → IfErr result
-        (IsRefusal B (D.count disk.old) (record { edits = edits.now; guids = guids.now }) (D.told disk.old).seen) }
+        (IsRefusal Zeroed B (D.count disk.old) (record { edits = edits.now; guids = guids.now }) (D.told disk.old).seen) }
 {
-    checked_plan_wanted(alloc, disk, &Wanted::Edited(edits, guids))
+    checked_plan_wanted(alloc, disk, &Wanted::Edited(edits, guids), Primary::Zeroed)
 }
 
 /// Changes the disk's layout as the words say, each new GUID being the next of `guids`.
@@ -85,10 +90,11 @@ pub fn commit<const B: usize, D: Disk<B>>(
     ensures name { D.name disk.new ≡ D.name disk.old }
     ensures blames { Blames fault_in result (D.faults disk.old) (D.faults disk.new) }
     ensures place { D.tells → IfErr result
-        (FailedInCommit (CommitReads B (D.count disk.old) (record { edits = edits.now; guids = guids.now }) (D.told disk.old).seen)) }
+        (FailedInCommit (CommitReads Zeroed B (D.count disk.old) (record { edits = edits.now; guids = guids.now })
+        (D.told disk.old).seen)) }
     ensures hides { IfErr result HidesNoFailure }
-    ensures commits { D.tells → Commits B (D.count disk.old) (record { edits = edits.now; guids = guids.now }) result
+    ensures commits { D.tells → Commits Zeroed B (D.count disk.old) (record { edits = edits.now; guids = guids.now }) result
         (D.told disk.old) (D.told disk.new) }
 {
-    carry_out(alloc, disk, &Wanted::Edited(edits, guids))
+    carry_out(alloc, disk, &Wanted::Edited(edits, guids), Primary::Zeroed)
 }

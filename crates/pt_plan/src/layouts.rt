@@ -5,8 +5,9 @@ ghost use Rattle.pt_sector.specs.Sectors.{IsSectorSize};
 ghost use Rattle.pt_sector.specs.Device.{Blames};
 ghost use Rattle.pt_sector.specs.Overlays.{OnlyReads};
 ghost use Rattle.pt_apply.specs.Plans.{phases_of, InRange};
-ghost use Rattle.pt_planner.specs.PlanReads.{FailedInPlan, MakeReads};
+ghost use Rattle.pt_planner.specs.PlanReads.{FailedInPlan, MakeReadsBy};
 ghost use Rattle.pt_cases.specs.Unplanned.{fault_in as plan_fault_in, Unplanned};
+ghost use Rattle.pt_cases.specs.declared.primary.Primary.TheVariants.{Kept};
 ghost use Rattle.pt_plan.specs.Layouts.{CommitsLayout, IsAccepted, IsReadyFor, IsRefusalOf};
 ghost use Rattle.pt_plan.specs.Batches.{FailedInCommit, LayoutReads};
 ghost use Rattle.pt_plan.specs.Commits.{commit_fault_in as fault_in, HidesNoFailure};
@@ -17,12 +18,13 @@ use crate::wanted::Wanted;
 use crate::writing::carry_out;
 use pt_apply::Plan;
 use pt_layout::Layout;
-use pt_planner::{PlanError, make_plan};
+use pt_planner::{PlanError, Primary, make_plan_by};
 use pt_sector::Disk;
 use std::alloc::Global;
 
 /// The plan that makes the disk healthy with the wanted layout, wherever that comes from: without phases where it is so
-/// already. Nothing is flushed or written. The checker is not asked, and accepts each such plan.
+/// already. The primary copy is kept; [`make_plan`] zeroes it. Nothing is flushed or written. The checker is not asked, and accepts
+/// each such plan.
 pub fn plan_for_layout<const B: usize, D: Disk<B>>(
     alloc: Global,
     disk: &mut D,
@@ -31,13 +33,13 @@ pub fn plan_for_layout<const B: usize, D: Disk<B>>(
     requires size { IsSectorSize B }
     ensures same { OnlyReads D.Disk disk.old disk.new }
     ensures blames { Blames plan_fault_in result (D.faults disk.old) (D.faults disk.new) }
-    ensures place { D.tells → IfErr result (FailedInPlan (MakeReads B (D.told disk.old).seen wanted.now)) }
+    ensures place { D.tells → IfErr result (FailedInPlan (MakeReadsBy Kept B (D.told disk.old).seen wanted.now)) }
     ensures in_range { IfOk result (InRange (D.count disk.old)) }
     ensures phases { IfOk result (λ plan. All (λ p. 0 < length p.items) plan.phases.items) }
-    ensures accepted { D.tells → IfOk result (λ plan. IsAccepted B wanted.now (D.told disk.old).seen (phases_of plan)) }
+    ensures accepted { D.tells → IfOk result (λ plan. IsAccepted Kept B wanted.now (D.told disk.old).seen (phases_of plan)) }
     ensures refused { D.tells → IfErr result (Unplanned B (D.told disk.old).seen wanted.now) }
 {
-    make_plan(alloc, disk, wanted)
+    make_plan_by(alloc, disk, wanted, Primary::Kept)
 }
 
 /// The same plan, once the checker has accepted it. Nothing is flushed or written. `NoTable`, `Edit` and `Check` are never
@@ -50,17 +52,19 @@ pub fn checked_plan_for_layout<const B: usize, D: Disk<B>>(
     requires size { IsSectorSize B }
     ensures same { OnlyReads D.Disk disk.old disk.new }
     ensures blames { Blames fault_in result (D.faults disk.old) (D.faults disk.new) }
-    ensures place { D.tells → IfErr result (FailedInCommit (LayoutReads B wanted.now (D.told disk.old).seen)) }
+    ensures place { D.tells → IfErr result (FailedInCommit (LayoutReads Kept B wanted.now (D.told disk.old).seen)) }
     ensures hides { IfErr result HidesNoFailure }
     ensures in_range { IfOk result (InRange (D.count disk.old)) }
     ensures phases { IfOk result (λ plan. All (λ p. 0 < length p.items) plan.phases.items) }
-    ensures ready { D.tells → IfOk result (λ plan. IsReadyFor B (D.count disk.old) wanted.now (D.told disk.old).seen (phases_of plan)) }
-    ensures refused { D.tells → IfErr result (IsRefusalOf B (D.count disk.old) wanted.now (D.told disk.old).seen) }
+    ensures ready { D.tells → IfOk result
+        (λ plan. IsReadyFor Kept B (D.count disk.old) wanted.now (D.told disk.old).seen (phases_of plan)) }
+    ensures refused { D.tells → IfErr result (IsRefusalOf Kept B (D.count disk.old) wanted.now (D.told disk.old).seen) }
 {
-    checked_plan_wanted(alloc, disk, &Wanted::Layout(wanted))
+    checked_plan_wanted(alloc, disk, &Wanted::Layout(wanted), Primary::Kept)
 }
 
-/// Makes the disk healthy with the wanted layout, wherever that comes from.
+/// Makes the disk healthy with the wanted layout, wherever that comes from. The primary copy is kept;
+/// [`commit_wanted`](crate::commit_wanted) has the choice.
 ///
 /// The disk is flushed first, so that what a read gives is durable; then a plan is made for the layout, checked, and
 /// applied phase by phase. Whatever was on the disk and whatever calls went before: each disk that a crash within the
@@ -79,9 +83,9 @@ pub fn commit_layout<const B: usize, D: Disk<B>>(
     ensures count { D.count disk.new ≡ D.count disk.old }
     ensures name { D.name disk.new ≡ D.name disk.old }
     ensures blames { Blames fault_in result (D.faults disk.old) (D.faults disk.new) }
-    ensures place { D.tells → IfErr result (FailedInCommit (LayoutReads B wanted.now (D.told disk.old).seen)) }
+    ensures place { D.tells → IfErr result (FailedInCommit (LayoutReads Kept B wanted.now (D.told disk.old).seen)) }
     ensures hides { IfErr result HidesNoFailure }
-    ensures commits { D.tells → CommitsLayout B (D.count disk.old) wanted.now result (D.told disk.old) (D.told disk.new) }
+    ensures commits { D.tells → CommitsLayout Kept B (D.count disk.old) wanted.now result (D.told disk.old) (D.told disk.new) }
 {
-    carry_out(alloc, disk, &Wanted::Layout(wanted))
+    carry_out(alloc, disk, &Wanted::Layout(wanted), Primary::Kept)
 }

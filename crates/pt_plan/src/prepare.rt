@@ -7,13 +7,13 @@ ghost use Rattle.pt_sector.specs.Overlays.{OnlyReads};
 ghost use Rattle.pt_apply.specs.Plans.{phases_of, InRange};
 ghost use Rattle.pt_recover.specs.Denotes.{failure_in};
 ghost use Rattle.pt_recover.specs.declared.error.NoTable.{NoTable as Reason};
-ghost use Rattle.pt_cases.specs.Cases.{IsPlan};
+ghost use Rattle.pt_cases.specs.Kept.{IsPlanBy};
 ghost use Rattle.pt_check.specs.Answers.{CheckReads, IsRecoveredOf};
-ghost use Rattle.pt_planner.specs.PlanReads.{IsKnown, ReasonIs, PlanReads};
+ghost use Rattle.pt_planner.specs.PlanReads.{IsKnown, ReasonIs, PlanReadsBy};
 ghost use Rattle.pt_plan.specs.Batches.{MakesTable, EditedBy, FailedInCommit};
 ghost use Rattle.pt_plan.specs.Commits.{commit_fault_in as fault_in, HidesNoFailure};
 ghost use Rattle.pt_plan.specs.inner.Commits.{sectors_in, MayStart, NotEdited, NotPlanned, IsSafe, NotSafe};
-ghost use Rattle.pt_plan.specs.inner.Layouts.{IsPlanOf, IsReadyOf, IsRefusedBy, PlanOfReads, WriteOfReads};
+ghost use Rattle.pt_plan.specs.Wanted.{IsPlanOf, IsReadyOf, IsRefusedBy, PlanOfReads, WriteOfReads};
 ghost use Rattle.pt_plan.specs.declared.error.CommitError.TheVariants as commit;
 
 use crate::error::CommitError;
@@ -23,7 +23,7 @@ use pt_check::{Answer, Recovered, check_known};
 use pt_edit::{Edit, edit};
 use pt_guid::Guid;
 use pt_layout::{Layout, NoTable};
-use pt_planner::{Known, plan_from, read_known};
+use pt_planner::{Known, Primary, plan_by, read_known};
 use pt_sector::{Disk, ReadCache, Room};
 use std::alloc::Global;
 
@@ -112,19 +112,20 @@ fn planned<const B: usize, D: Disk<B>>(
     disk: &mut D,
     known: &Known,
     wanted: &Layout,
+    primary: Primary,
 ) -> Result<Plan<B>, CommitError>
     requires size { IsSectorSize B }
     requires known { D.tells → IsKnown B (D.told disk.old).seen known.now }
     ensures same { OnlyReads D.Disk disk.old disk.new }
     ensures blames { Blames fault_in result (D.faults disk.old) (D.faults disk.new) }
-    ensures place { IfErr result (FailedInCommit (PlanReads B (D.count disk.old) wanted.now)) }
+    ensures place { D.tells → IfErr result (FailedInCommit (PlanReadsBy primary B (D.count disk.old) wanted.now)) }
     ensures hides { IfErr result HidesNoFailure }
     ensures in_range { IfOk result (InRange (D.count disk.old)) }
     ensures some { IfOk result (λ plan. All (λ p. 0 < length p.items) plan.phases.items) }
-    ensures plan { D.tells → IfOk result (λ plan. IsPlan B (D.told disk.old).seen wanted.now (phases_of plan)) }
+    ensures plan { D.tells → IfOk result (λ plan. IsPlanBy primary B (D.told disk.old).seen wanted.now (phases_of plan)) }
     ensures err { D.tells → IfErr result (NotPlanned B (D.told disk.old).seen wanted.now) }
 {
-    let plan = plan_from(alloc, disk, known, wanted)?;
+    let plan = plan_by(alloc, disk, known, wanted, primary)?;
     Ok(plan)
 }
 
@@ -166,6 +167,7 @@ fn plan_known<const B: usize, D: Disk<B>>(
     known: &Known,
     reason: Option<NoTable>,
     wanted: &Wanted,
+    primary: Primary,
 ) -> Result<Plan<B>, CommitError>
     requires size { IsSectorSize B }
     requires known { D.tells → IsKnown B (D.told disk.old).seen known.now }
@@ -173,74 +175,78 @@ fn plan_known<const B: usize, D: Disk<B>>(
     ensures same { OnlyReads D.Disk disk.old disk.new }
     ensures blames { Blames fault_in result (D.faults disk.old) (D.faults disk.new) }
     ensures place { D.tells → IfErr result
-        (FailedInCommit (PlanOfReads B (D.count disk.old) wanted.now (D.told disk.old).seen)) }
+        (FailedInCommit (PlanOfReads primary B (D.count disk.old) wanted.now (D.told disk.old).seen)) }
     ensures hides { IfErr result HidesNoFailure }
     ensures in_range { IfOk result (InRange (D.count disk.old)) }
     ensures phases { IfOk result (λ plan. All (λ p. 0 < length p.items) plan.phases.items) }
     ensures planned { D.tells → IfOk result
-        (λ plan. IsPlanOf B (D.count disk.old) wanted.now (D.told disk.old).seen (phases_of plan)) }
-    ensures refused { D.tells → IfErr result (IsRefusedBy B (D.count disk.old) wanted.now (D.told disk.old).seen) }
+        (λ plan. IsPlanOf primary B (D.count disk.old) wanted.now (D.told disk.old).seen (phases_of plan)) }
+    ensures refused { D.tells → IfErr result (IsRefusedBy primary B (D.count disk.old) wanted.now (D.told disk.old).seen) }
 {
     match wanted {
         Wanted::Edited(edits, guids) => {
             may_start(reason, edits)?;
             let layout = edited::<B>(alloc, &known.old, disk.sectors(), edits, guids)?;
-            planned(alloc, disk, known, &layout)
+            planned(alloc, disk, known, &layout, primary)
         }
-        Wanted::Layout(layout) => planned(alloc, disk, known, layout),
+        Wanted::Layout(layout) => planned(alloc, disk, known, layout, primary),
         Wanted::Own => match &known.old {
-            Some(own) => planned(alloc, disk, known, own),
+            Some(own) => planned(alloc, disk, known, own, primary),
             None => Err(no_layout(reason)),
         },
     }
 }
 
-/// The plan for what is wanted. Nothing is flushed or written, and the checker is not asked.
-pub(crate) fn plan_wanted<const B: usize, D: Disk<B>>(
+/// The plan for what is wanted, by what becomes of the primary copy. Nothing is flushed or written. The checker is not asked, and
+/// accepts each such plan. Words are refused as [`commit`](crate::commit) refuses them; for a layout and for the disk's own, `Edit`
+/// and `Check` are never reported.
+pub fn plan_wanted<const B: usize, D: Disk<B>>(
     alloc: Global,
     disk: &mut D,
     wanted: &Wanted,
+    primary: Primary,
 ) -> Result<Plan<B>, CommitError>
     requires size { IsSectorSize B }
     ensures same { OnlyReads D.Disk disk.old disk.new }
     ensures blames { Blames fault_in result (D.faults disk.old) (D.faults disk.new) }
     ensures place { D.tells → IfErr result
-        (FailedInCommit (PlanOfReads B (D.count disk.old) wanted.now (D.told disk.old).seen)) }
+        (FailedInCommit (PlanOfReads primary B (D.count disk.old) wanted.now (D.told disk.old).seen)) }
     ensures hides { IfErr result HidesNoFailure }
     ensures in_range { IfOk result (InRange (D.count disk.old)) }
     ensures phases { IfOk result (λ plan. All (λ p. 0 < length p.items) plan.phases.items) }
     ensures planned { D.tells → IfOk result
-        (λ plan. IsPlanOf B (D.count disk.old) wanted.now (D.told disk.old).seen (phases_of plan)) }
-    ensures refused { D.tells → IfErr result (IsRefusedBy B (D.count disk.old) wanted.now (D.told disk.old).seen) }
+        (λ plan. IsPlanOf primary B (D.count disk.old) wanted.now (D.told disk.old).seen (phases_of plan)) }
+    ensures refused { D.tells → IfErr result (IsRefusedBy primary B (D.count disk.old) wanted.now (D.told disk.old).seen) }
 {
     let room = Room::for_cache(alloc)?;
     let mut cache = ReadCache::new(disk, room);
     let (known, reason) = read_known(alloc, &mut cache)?;
-    plan_known(alloc, &mut cache, &known, reason, wanted)
+    plan_known(alloc, &mut cache, &known, reason, wanted, primary)
 }
 
 /// The same plan, once the checker has accepted it. Nothing is flushed or written.
-pub(crate) fn checked_plan_wanted<const B: usize, D: Disk<B>>(
+pub fn checked_plan_wanted<const B: usize, D: Disk<B>>(
     alloc: Global,
     disk: &mut D,
     wanted: &Wanted,
+    primary: Primary,
 ) -> Result<Plan<B>, CommitError>
     requires size { IsSectorSize B }
     ensures same { OnlyReads D.Disk disk.old disk.new }
     ensures blames { Blames fault_in result (D.faults disk.old) (D.faults disk.new) }
     ensures place { D.tells → IfErr result
-        (FailedInCommit (WriteOfReads B (D.count disk.old) wanted.now (D.told disk.old).seen)) }
+        (FailedInCommit (WriteOfReads primary B (D.count disk.old) wanted.now (D.told disk.old).seen)) }
     ensures hides { IfErr result HidesNoFailure }
     ensures in_range { IfOk result (InRange (D.count disk.old)) }
     ensures phases { IfOk result (λ plan. All (λ p. 0 < length p.items) plan.phases.items) }
     ensures ready { D.tells → IfOk result
-        (λ plan. IsReadyOf B (D.count disk.old) wanted.now (D.told disk.old).seen (phases_of plan)) }
-    ensures refused { D.tells → IfErr result (IsRefusedBy B (D.count disk.old) wanted.now (D.told disk.old).seen) }
+        (λ plan. IsReadyOf primary B (D.count disk.old) wanted.now (D.told disk.old).seen (phases_of plan)) }
+    ensures refused { D.tells → IfErr result (IsRefusedBy primary B (D.count disk.old) wanted.now (D.told disk.old).seen) }
 {
     let room = Room::for_cache(alloc)?;
     let mut cache = ReadCache::new(disk, room);
     let (known, reason) = read_known(alloc, &mut cache)?;
-    let plan = plan_known(alloc, &mut cache, &known, reason, wanted)?;
+    let plan = plan_known(alloc, &mut cache, &known, reason, wanted, primary)?;
     checked(alloc, &mut cache, &plan, recovered(known))?;
     Ok(plan)
 }

@@ -5,6 +5,7 @@ ghost use Rattle.pt_sector.specs.Sectors.{IsSectorSize};
 ghost use Rattle.pt_sector.specs.Device.{Blames};
 ghost use Rattle.pt_sector.specs.Overlays.{OnlyReads};
 ghost use Rattle.pt_apply.specs.Plans.{phases_of, InRange};
+ghost use Rattle.pt_cases.specs.declared.primary.Primary.TheVariants.{Zeroed};
 ghost use Rattle.pt_plan.specs.Batches.{IsMendPlan, IsReadyToMend, IsMendRefusal, Repairs, FailedInRepair, MendReads, RepairReads};
 ghost use Rattle.pt_plan.specs.Repairs.{repair_fault_in as fault_in, MendHidesNoFailure};
 
@@ -13,6 +14,7 @@ use crate::repair_error::{RepairError, told};
 use crate::wanted::Wanted;
 use crate::writing::carry_out;
 use pt_apply::Plan;
+use pt_planner::Primary;
 use pt_sector::Disk;
 use std::alloc::Global;
 
@@ -26,14 +28,33 @@ pub fn plan_for_repair<const B: usize, D: Disk<B>>(
     requires size { IsSectorSize B }
     ensures same { OnlyReads D.Disk disk.old disk.new }
     ensures blames { Blames fault_in result (D.faults disk.old) (D.faults disk.new) }
-    ensures place { D.tells → IfErr result (FailedInRepair (MendReads B (D.count disk.old) (D.told disk.old).seen)) }
+    ensures place { D.tells → IfErr result (FailedInRepair (MendReads Zeroed B (D.count disk.old) (D.told disk.old).seen)) }
     ensures hides { IfErr result MendHidesNoFailure }
     ensures in_range { IfOk result (InRange (D.count disk.old)) }
     ensures phases { IfOk result (λ plan. All (λ p. 0 < length p.items) plan.phases.items) }
-    ensures planned { D.tells → IfOk result (λ plan. IsMendPlan B (D.told disk.old).seen (phases_of plan)) }
+    ensures planned { D.tells → IfOk result (λ plan. IsMendPlan Zeroed B (D.told disk.old).seen (phases_of plan)) }
     ensures refused { D.tells → IfErr result (IsMendRefusal B (D.told disk.old).seen) }
 {
-    match plan_wanted(alloc, disk, &Wanted::Own) {
+    plan_for_repair_by(alloc, disk, Primary::Zeroed)
+}
+
+/// The same, by what becomes of the primary copy.
+pub fn plan_for_repair_by<const B: usize, D: Disk<B>>(
+    alloc: Global,
+    disk: &mut D,
+    primary: Primary,
+) -> Result<Plan<B>, RepairError>
+    requires size { IsSectorSize B }
+    ensures same { OnlyReads D.Disk disk.old disk.new }
+    ensures blames { Blames fault_in result (D.faults disk.old) (D.faults disk.new) }
+    ensures place { D.tells → IfErr result (FailedInRepair (MendReads primary B (D.count disk.old) (D.told disk.old).seen)) }
+    ensures hides { IfErr result MendHidesNoFailure }
+    ensures in_range { IfOk result (InRange (D.count disk.old)) }
+    ensures phases { IfOk result (λ plan. All (λ p. 0 < length p.items) plan.phases.items) }
+    ensures planned { D.tells → IfOk result (λ plan. IsMendPlan primary B (D.told disk.old).seen (phases_of plan)) }
+    ensures refused { D.tells → IfErr result (IsMendRefusal B (D.told disk.old).seen) }
+{
+    match plan_wanted(alloc, disk, &Wanted::Own, primary) {
         Ok(plan) => Ok(plan),
         Err(error) => Err(told(error)),
     }
@@ -47,14 +68,33 @@ pub fn checked_plan_for_repair<const B: usize, D: Disk<B>>(
     requires size { IsSectorSize B }
     ensures same { OnlyReads D.Disk disk.old disk.new }
     ensures blames { Blames fault_in result (D.faults disk.old) (D.faults disk.new) }
-    ensures place { D.tells → IfErr result (FailedInRepair (RepairReads B (D.count disk.old) (D.told disk.old).seen)) }
+    ensures place { D.tells → IfErr result (FailedInRepair (RepairReads Zeroed B (D.count disk.old) (D.told disk.old).seen)) }
     ensures hides { IfErr result MendHidesNoFailure }
     ensures in_range { IfOk result (InRange (D.count disk.old)) }
     ensures phases { IfOk result (λ plan. All (λ p. 0 < length p.items) plan.phases.items) }
-    ensures ready { D.tells → IfOk result (λ plan. IsReadyToMend B (D.told disk.old).seen (phases_of plan)) }
+    ensures ready { D.tells → IfOk result (λ plan. IsReadyToMend Zeroed B (D.told disk.old).seen (phases_of plan)) }
     ensures refused { D.tells → IfErr result (IsMendRefusal B (D.told disk.old).seen) }
 {
-    match checked_plan_wanted(alloc, disk, &Wanted::Own) {
+    checked_plan_for_repair_by(alloc, disk, Primary::Zeroed)
+}
+
+/// The same, by what becomes of the primary copy.
+pub fn checked_plan_for_repair_by<const B: usize, D: Disk<B>>(
+    alloc: Global,
+    disk: &mut D,
+    primary: Primary,
+) -> Result<Plan<B>, RepairError>
+    requires size { IsSectorSize B }
+    ensures same { OnlyReads D.Disk disk.old disk.new }
+    ensures blames { Blames fault_in result (D.faults disk.old) (D.faults disk.new) }
+    ensures place { D.tells → IfErr result (FailedInRepair (RepairReads primary B (D.count disk.old) (D.told disk.old).seen)) }
+    ensures hides { IfErr result MendHidesNoFailure }
+    ensures in_range { IfOk result (InRange (D.count disk.old)) }
+    ensures phases { IfOk result (λ plan. All (λ p. 0 < length p.items) plan.phases.items) }
+    ensures ready { D.tells → IfOk result (λ plan. IsReadyToMend primary B (D.told disk.old).seen (phases_of plan)) }
+    ensures refused { D.tells → IfErr result (IsMendRefusal B (D.told disk.old).seen) }
+{
+    match checked_plan_wanted(alloc, disk, &Wanted::Own, primary) {
         Ok(plan) => Ok(plan),
         Err(error) => Err(told(error)),
     }
@@ -73,11 +113,28 @@ pub fn repair<const B: usize, D: Disk<B>>(alloc: Global, disk: &mut D) -> Result
     ensures count { D.count disk.new ≡ D.count disk.old }
     ensures name { D.name disk.new ≡ D.name disk.old }
     ensures blames { Blames fault_in result (D.faults disk.old) (D.faults disk.new) }
-    ensures place { D.tells → IfErr result (FailedInRepair (RepairReads B (D.count disk.old) (D.told disk.old).seen)) }
+    ensures place { D.tells → IfErr result (FailedInRepair (RepairReads Zeroed B (D.count disk.old) (D.told disk.old).seen)) }
     ensures hides { IfErr result MendHidesNoFailure }
-    ensures repairs { D.tells → Repairs B (D.count disk.old) result (D.told disk.old) (D.told disk.new) }
+    ensures repairs { D.tells → Repairs Zeroed B (D.count disk.old) result (D.told disk.old) (D.told disk.new) }
 {
-    match carry_out(alloc, disk, &Wanted::Own) {
+    repair_by(alloc, disk, Primary::Zeroed)
+}
+
+/// The same, by what becomes of the primary copy.
+pub fn repair_by<const B: usize, D: Disk<B>>(
+    alloc: Global,
+    disk: &mut D,
+    primary: Primary,
+) -> Result<(), RepairError>
+    requires size { IsSectorSize B }
+    ensures count { D.count disk.new ≡ D.count disk.old }
+    ensures name { D.name disk.new ≡ D.name disk.old }
+    ensures blames { Blames fault_in result (D.faults disk.old) (D.faults disk.new) }
+    ensures place { D.tells → IfErr result (FailedInRepair (RepairReads primary B (D.count disk.old) (D.told disk.old).seen)) }
+    ensures hides { IfErr result MendHidesNoFailure }
+    ensures repairs { D.tells → Repairs primary B (D.count disk.old) result (D.told disk.old) (D.told disk.new) }
+{
+    match carry_out(alloc, disk, &Wanted::Own, primary) {
         Ok(()) => Ok(()),
         Err(error) => Err(told(error)),
     }

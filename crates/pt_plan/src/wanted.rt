@@ -6,7 +6,7 @@ use pt_layout::Layout;
 
 /// What a disk is to denote, once it is healthy.
 #[derive(Clone, Copy)]
-pub(crate) enum Wanted<'a> {
+pub enum Wanted<'a> {
     /// What these words make of its layout, each new GUID being the next of these.
     Edited(&'a [Edit], &'a [Guid]),
     /// This layout, wherever it comes from.

@@ -11,7 +11,7 @@ use Rattle.pt_cases.specs.declared.targets.target.Target.{Target}
 use Rattle.pt_planner.specs.declared.places.place.Place.{Place}
 use Rattle.pt_planner.specs.declared.places.answer.LabelTargets.{LabelTargets}
 use Rattle.pt_planner.specs.declared.places.answer.LabelTargets.TheVariants.{Misplaced, Foreign, Unreadable, Targets}
-use Rattle.pt_planner.specs.inner.Places.{HadBytes, HadAt, IsBytes, stood, other, fresh, IsTarget, keeps, changes, sets, HasNoBytes}
+use Rattle.pt_planner.specs.inner.Places.{HadBytes, IsBytes, stood, other, fresh, IsTarget, keeps, changes, sets}
 use Rattle.pt_planner.specs.inner.Places.{IsTargetOf, IsStuck, AreTargets, HasNone, AnswerOf}
 use Rattle.pt_planner.proofs.Pieces.{NotHad}
 

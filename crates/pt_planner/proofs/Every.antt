@@ -1,5 +1,5 @@
 -- Each label that would be written with both copies is written by their phases, or it changes.
-use Rattle.std.proofs.Common.{◌≡◌, ◌∙◌, inl, inr, ℕ, ◌-◌, List, replicate, sym, ap, subst, Option, Some}
+use Rattle.std.proofs.Common.{◌≡◌, ◌∙◌, inl, inr, ℕ, List, replicate, sym, ap, subst, Option, Some}
 use Rattle.std.specs.Prelude.{Contains}
 use Rattle.pt_sector.specs.Sectors.{Sectors, sector, IsSectorSize, Writes, Puts}
 use Rattle.pt_bsd.specs.declared.label.Label.{Label}

@@ -13,7 +13,9 @@ use Rattle.pt_cases.specs.inner.Unplanned.{Hindered}
 use Rattle.pt_cases.specs.declared.targets.error.PlanError.{PlanError}
 use Rattle.pt_cases.specs.declared.targets.error.PlanError.TheVariants.{NotOneSwitch, ReusedInOneBatch, NeedsRepair, Unsound, Device}
 use Rattle.pt_cases.specs.declared.targets.error.PlanError.TheVariants.{Memory}
-use Rattle.pt_planner.specs.PlanReads.{FailedInPlan}
+use Rattle.pt_cases.specs.declared.primary.Primary.{Primary}
+use Rattle.pt_cases.specs.declared.primary.Primary.TheVariants.{Zeroed, Kept}
+use Rattle.pt_planner.specs.PlanReads.{FailedInPlan, PlanReads, PlanReadsBy}
 use Rattle.pt_planner.specs.inner.PlanReads.{IsUnsoundBy, PlacesStop}
 
 pub failure_blames : (old new : List Fault) (e : Failure) → new ≡ with_fault old (fault_of e)
@@ -84,3 +86,8 @@ unsound_nowhere b p S NeedsRepair is = tt
 unsound_nowhere b p S (Unsound f) is = tt
 unsound_nowhere b p S (Device fault) is = absurd is
 unsound_nowhere b p S Memory is = tt
+
+-- a plan that keeps the primary copy reads what another one does, and more
+pub reads_by : (primary : Primary) (b n : ℕ) (p : Layout) (s : ℕ) → PlanReads b n p s → PlanReadsBy primary b n p s
+reads_by Zeroed b n p s reads = reads
+reads_by Kept b n p s reads = inl reads

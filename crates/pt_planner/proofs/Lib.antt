@@ -6,6 +6,7 @@ pub mod Encodings
 pub mod Every
 mod Failing
 mod Heads
+pub mod KeptPlans
 mod Knowing
 pub mod LabelTurn
 pub mod Labels
@@ -16,6 +17,7 @@ pub mod Lists
 mod Made
 mod Making
 pub mod MbrTurn
+mod Opening
 mod Over
 mod Parts
 pub mod PhasesPlans
@@ -27,6 +29,7 @@ pub mod Refusing
 pub mod SameBytes
 pub mod Shapes
 pub mod Sides
+pub mod Standing
 pub mod Sums
 pub mod Touching
 pub mod TurnShapes

@@ -22,6 +22,9 @@ phases_more ps p = map-append (λ (x : Vec (Write _) Global). writes_of x.items)
 pub length_writes : {b : _} (ws : List (Write b)) → length (writes_of ws) ≡ length ws
 length_writes ws = length-map ws (λ (x : Write _). (x.lba.0, x.bytes))
 
+pub length_phases : {b : _} (ps : List (Vec (Write b) Global)) → length (phases_in ps) ≡ length ps
+length_phases ps = length-map ps (λ (v : Vec (Write _) Global). writes_of v.items)
+
 -- what is in range is written in range
 pub puts_below : {b : _} (n : ℕ) (ws : List (Write b)) (s : ℕ) (v : List ℕ) → PhaseInRange n ws → Puts (writes_of ws) s v → s < n
 puts_below n [] s v each puts = absurd puts

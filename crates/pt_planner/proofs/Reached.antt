@@ -1,5 +1,5 @@
 -- Lemmas on specs/Phases.antt: the sectors that the phases of both copies write: for whoever puts a plan together.
-use Rattle.std.proofs.Common.{◌≡◌, ◌⊎◌, inl, inr, ⊎_elim, ℕ, ◌+◌, ◌<◌, List, [], ◌∷◌, ◌++◌, refl, sym, subst, arith, Option, Some, None}
+use Rattle.std.proofs.Common.{◌≡◌, ◌⊎◌, inl, inr, ⊎_elim, ℕ, ◌<◌, List, [], ◌∷◌, ◌++◌, refl, sym, subst, arith, Option, Some, None}
 use Rattle.pt_sector.specs.Sectors.{Writes, Puts}
 use Rattle.pt_mbr.specs.Records.{IsProtective}
 use Rattle.pt_gpt.specs.Copies.{array_len, HasRoom}

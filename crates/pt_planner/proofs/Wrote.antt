@@ -1,5 +1,5 @@
 -- What phases that write both copies have: they are in range, none is empty, and they are few writes.
-use Rattle.std.proofs.Common.{◌≡◌, ◌∙◌, ◌⊎◌, inl, inr, ℕ, ◌+◌, ◌*◌, ◌<◌, ◌≤◌, List, [], ◌∷◌, ◌++◌, length, slice_index_or, ◌-◌, Option}
+use Rattle.std.proofs.Common.{◌≡◌, ◌∙◌, ◌⊎◌, inl, inr, ℕ, ◌+◌, ◌<◌, ◌≤◌, List, [], ◌∷◌, ◌++◌, length, slice_index_or, ◌-◌, Option}
 use Rattle.std.proofs.Common.{Some, None, sym, ap, subst, arith, length-append, Vec}
 use Rattle.std.specs.declared.alloc.Global.{Global}
 use Rattle.pt_sector.specs.Sectors.{IsSectorSize, Writes, Puts}

@@ -6,13 +6,17 @@ use Rattle.pt_mbr.specs.Chain.{StandsAt}
 use Rattle.pt_mbr.specs.declared.ebr.Ebr.{Ebr}
 use Rattle.pt_mbr.specs.declared.record.Record.{Record}
 use Rattle.pt_members.specs.Members.{places_of, IsPlace}
-use Rattle.pt_members.specs.declared.layout.Body.TheVariants.{Mbr}
+use Rattle.pt_members.specs.declared.layout.Body.TheVariants.{Mbr, Gpt}
 use Rattle.pt_members.specs.declared.layout.Layout.{Layout}
 use Rattle.pt_layout.specs.Healthy.{VerdictReads, IsFinding, IsGuarded, IsHealthy}
+use Rattle.pt_cases.specs.Writes.{IsOfCopy}
+use Rattle.pt_cases.specs.declared.primary.Primary.{Primary as Choice}
+use Rattle.pt_cases.specs.declared.primary.Primary.TheVariants as choice
 use Rattle.pt_cases.specs.declared.targets.error.PlanError.{PlanError}
 use Rattle.pt_cases.specs.declared.targets.error.PlanError.TheVariants.{Device}
 use Rattle.pt_gpt.specs.Copies.{HasCopy, HasRoom}
 use Rattle.pt_gpt.specs.declared.table.Side.TheVariants.{Primary}
+use Rattle.pt_gpt.specs.declared.table.Table.{Table}
 use Rattle.pt_recover.specs.Denotes.{IsReason, IsTraceOf, Denotes, IsMbrDisk}
 use Rattle.pt_recover.specs.Spans.{IsIn}
 use Rattle.pt_recover.specs.declared.error.NoTable.{NoTable}
@@ -34,9 +38,21 @@ pub data PlanReads (b n : ℕ) (wanted : Layout) (s : ℕ) : Type 0 where
   label : IsPlace (places_of b n wanted.body) s → PlanReads b n wanted s
   ebr : (records : List (Option Record)) (chain : List Ebr) → wanted.body ≡ Mbr records chain → StandsAt s chain → PlanReads b n wanted s
 
--- and where it isn't known: those that decide a verdict of the disk, too
+-- for a layout that is a GPT, the sectors of its two copies
+abbrev pub IsOfItsCopies : ℕ → ℕ → Layout → ℕ → Type 0
+IsOfItsCopies b n wanted s = (t : Table) × (wanted.body ≡ Gpt t) × IsOfCopy b n s
+
+-- a plan that keeps the primary copy: these, too
+abbrev pub PlanReadsBy : Choice → ℕ → ℕ → Layout → ℕ → Type 0
+PlanReadsBy choice.Zeroed b n wanted s = PlanReads b n wanted s
+PlanReadsBy choice.Kept b n wanted s = PlanReads b n wanted s ⊎ IsOfItsCopies b n wanted s
+
+-- and where what the disk denotes isn't known: those that decide a verdict of it, too
+abbrev pub MakeReadsBy : Choice → ℕ → Sectors → Layout → ℕ → Type 0
+MakeReadsBy primary b d wanted s = VerdictReads b d s ⊎ PlanReadsBy primary b (length d) wanted s
+
 abbrev pub MakeReads : ℕ → Sectors → Layout → ℕ → Type 0
-MakeReads b d wanted s = VerdictReads b d s ⊎ PlanReads b (length d) wanted s
+MakeReads b d wanted s = MakeReadsBy choice.Zeroed b d wanted s
 
 -- ## What the planner knows of a disk.
 

@@ -1,3 +1,4 @@
+pub mod Kept
 pub mod Phases
 pub mod Places
 pub mod PlanReads

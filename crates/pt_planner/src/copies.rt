@@ -6,5 +6,6 @@ mod phases;
 mod protect;
 
 pub use fits::fits_table;
+pub(crate) use parts::single;
 pub use phases::{backup_first, from_mbr, primary_first};
 pub use protect::{protected_head, protecting};

@@ -3,6 +3,7 @@
 
 pub mod chains;
 pub mod copies;
+mod kept;
 mod known;
 pub mod phases;
 pub mod places;
@@ -11,5 +12,6 @@ mod plans;
 mod state;
 
 pub use known::{Known, read_known};
-pub use planner::{make_plan, plan_from};
+pub use planner::{make_plan, make_plan_by, plan_by, plan_from};
+pub use pt_cases::Primary;
 pub use pt_cases::targets::PlanError;

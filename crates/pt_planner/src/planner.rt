@@ -7,14 +7,17 @@ ghost use Rattle.pt_sector.specs.Sectors.{IsSectorSize};
 ghost use Rattle.pt_apply.specs.Plans.{phases_of, InRange};
 ghost use Rattle.pt_layout.specs.Sound.{Sound};
 ghost use Rattle.pt_cases.specs.Cases.{IsPlan};
+ghost use Rattle.pt_cases.specs.Kept.{IsPlanBy};
 ghost use Rattle.pt_cases.specs.Unplanned.{fault_in, Unplanned};
-ghost use Rattle.pt_planner.specs.PlanReads.{IsKnown, FailedInPlan, PlanReads, MakeReads};
+ghost use Rattle.pt_planner.specs.PlanReads.{IsKnown, FailedInPlan, PlanReads, PlanReadsBy, MakeReads, MakeReadsBy};
 ghost use Rattle.pt_planner.specs.inner.PlanReads.{IsUnsoundBy};
 
+use crate::kept::keep_primary;
 use crate::known::{Known, read_known};
 use crate::plans::{places_of, to_gpt, to_mbr};
 use crate::state::{Change, change_to, is_done};
 use pt_apply::Plan;
+use pt_cases::Primary;
 use pt_cases::targets::PlanError;
 use pt_layout::{Layout, unsound};
 use pt_sector::{Disk, ReadCache, Room};
@@ -69,6 +72,33 @@ pub fn plan_from<const B: usize, D: Disk<B>>(
     }
 }
 
+/// The plan for a layout, by what is known of the disk and by what becomes of its primary copy.
+///
+/// See [`make_plan_by`].
+pub fn plan_by<const B: usize, D: Disk<B>>(
+    alloc: Global,
+    disk: &mut D,
+    known: &Known,
+    wanted: &Layout,
+    primary: Primary,
+) -> Result<Plan<B>, PlanError>
+    requires size { IsSectorSize B }
+    requires known { D.tells → IsKnown B (D.told disk.old).seen known.now }
+    ensures same { OnlyReads D.Disk disk.old disk.new }
+    ensures blames { Blames fault_in result (D.faults disk.old) (D.faults disk.new) }
+    ensures place { D.tells → IfErr result (FailedInPlan (PlanReadsBy primary B (D.count disk.old) wanted.now)) }
+    ensures in_range { IfOk result (InRange (D.count disk.old)) }
+    ensures some { IfOk result (λ plan. All (λ p. 0 < length p.items) plan.phases.items) }
+    ensures plan { D.tells → IfOk result (λ plan. IsPlanBy primary B (D.told disk.old).seen wanted.now (phases_of plan)) }
+    ensures err { D.tells → IfErr result (Unplanned B (D.told disk.old).seen wanted.now) }
+{
+    let plan = plan_from(alloc, disk, known, wanted)?;
+    match primary {
+        Primary::Zeroed => Ok(plan),
+        Primary::Kept => keep_primary(alloc, disk, known, plan),
+    }
+}
+
 /// A plan that makes the disk healthy with the wanted layout: without phases where it is so already.
 ///
 /// Where a table is written (a GPT, whether its entries change or its copies need mending), a disk with a primary copy
@@ -92,8 +122,32 @@ pub fn make_plan<const B: usize, D: Disk<B>>(
     ensures plan { D.tells → IfOk result (λ plan. IsPlan B (D.told disk.old).seen wanted.now (phases_of plan)) }
     ensures err { D.tells → IfErr result (Unplanned B (D.told disk.old).seen wanted.now) }
 {
+    make_plan_by(alloc, disk, wanted, Primary::Zeroed)
+}
+
+/// The same, by what becomes of the primary copy.
+///
+/// With the primary copy kept, sector 1 isn't zeroed: it gets the header of the backup copy that is valid then, with the numbers
+/// of the two headers exchanged, so that it leads to the backup's array; zeros stay where the disk denotes nothing. It isn't
+/// written where the primary array needn't be, and a phase whose sectors hold what it would write is left out. What is refused,
+/// and which error comes first, is the same.
+pub fn make_plan_by<const B: usize, D: Disk<B>>(
+    alloc: Global,
+    disk: &mut D,
+    wanted: &Layout,
+    primary: Primary,
+) -> Result<Plan<B>, PlanError>
+    requires size { IsSectorSize B }
+    ensures same { OnlyReads D.Disk disk.old disk.new }
+    ensures blames { Blames fault_in result (D.faults disk.old) (D.faults disk.new) }
+    ensures place { D.tells → IfErr result (FailedInPlan (MakeReadsBy primary B (D.told disk.old).seen wanted.now)) }
+    ensures in_range { IfOk result (InRange (D.count disk.old)) }
+    ensures some { IfOk result (λ plan. All (λ p. 0 < length p.items) plan.phases.items) }
+    ensures plan { D.tells → IfOk result (λ plan. IsPlanBy primary B (D.told disk.old).seen wanted.now (phases_of plan)) }
+    ensures err { D.tells → IfErr result (Unplanned B (D.told disk.old).seen wanted.now) }
+{
     let room = Room::for_cache(alloc)?;
     let mut cache = ReadCache::new(disk, room);
     let (known, _reason) = read_known(alloc, &mut cache)?;
-    plan_from(alloc, &mut cache, &known, wanted)
+    plan_by(alloc, &mut cache, &known, wanted, primary)
 }

@@ -30,7 +30,7 @@ use Rattle.pt_plan.specs.declared.error.CommitError.TheVariants as commit
 use Rattle.pt_plan.specs.declared.repair_error.RepairError.{RepairError}
 use Rattle.pt_plan.specs.declared.repair_error.RepairError.TheVariants as repair
 use Rattle.pt_replay.specs.Claims.{NoLayout, Verified, Located, LocatedFor, NoPlan, Planned, PlannedFor, NoMending, Mended, MendedFor}
-use Rattle.pt_replay.specs.Claims.{Checked, CheckedFor, IsNamed, path_in, Says}
+use Rattle.pt_replay.specs.Claims.{by_table, Checked, CheckedFor, IsNamed, path_in, Says}
 use Rattle.pt_replay.specs.Given.{Buffers, AreTaken, AreEdits, AreDrawn, IsAskedFor}
 use Rattle.pt_replay.specs.inner.Given.{Gives, batch_of}
 use Rattle.pt_replay.specs.Replies.{status_code, the_size, nothing, failure_answer, finding_answer, table_answer, chain_answer}
@@ -117,7 +117,7 @@ module _ (b : ℕ) (v : View) (d : Sectors) where
 
 module _ (b : ℕ) (v : View) (d : Sectors) where
   -- words that want a table, of a disk that denotes nothing
-  chain_refuses : (batch : Words) (e : ChainError) → IsRefusal b v.sectors batch d (commit.NoTable (table.Chain e))
+  chain_refuses : (batch : Words) (e : ChainError) → IsRefusal (by_table v) b v.sectors batch d (commit.NoTable (table.Chain e))
       → NoPlan b v d batch (chain_answer e).status (chain_answer e).reply
   chain_refuses batch (chain.NoSignature at) is = (commit.NoTable (table.Chain (chain.NoSignature at)), is, refl)
   chain_refuses batch (chain.BadRecord at) is = (commit.NoTable (table.Chain (chain.BadRecord at)), is, refl)
@@ -126,7 +126,7 @@ module _ (b : ℕ) (v : View) (d : Sectors) where
   chain_refuses batch chain.TooLong is = (commit.NoTable (table.Chain chain.TooLong), is, refl)
   chain_refuses batch (chain.Device at) (none, is, may) = absurd (is.5 tt)
 
-  table_refuses : (batch : Words) (e : NoTable) → IsRefusal b v.sectors batch d (commit.NoTable e)
+  table_refuses : (batch : Words) (e : NoTable) → IsRefusal (by_table v) b v.sectors batch d (commit.NoTable e)
       → NoPlan b v d batch (table_answer e).status (table_answer e).reply
   table_refuses batch (table.NoCopy e f) is = (commit.NoTable (table.NoCopy e f), is, refl)
   table_refuses batch (table.Chain e) is = chain_refuses batch e is
@@ -135,15 +135,15 @@ module _ (b : ℕ) (v : View) (d : Sectors) where
   table_refuses batch (table.Device at) (none, is, may) = absurd is
   table_refuses batch table.Memory (none, is, may) = absurd is
 
-  asks_plan : (batch : Words) (f : Fault) → IsAsked b v f → FailedInCommit (CommitReads b v.sectors batch d) (commit.Device f)
+  asks_plan : (batch : Words) (f : Fault) → IsAsked b v f → FailedInCommit (CommitReads (by_table v) b v.sectors batch d) (commit.Device f)
       → NoPlan b v d batch (commit_answer (commit.Device f)).status (commit_answer (commit.Device f)).reply
   asks_plan batch (fault.Read at) is failed = (is, failed, refl)
   asks_plan batch (fault.Write at) is failed = absurd is
   asks_plan batch fault.Flush is failed = absurd is
 
   -- an error of the planner
-  pub says_refused : (batch : Words) (e : CommitError) → IsRefusal b v.sectors batch d e
-      → ((f : Fault) → commit_fault_in e ≡ Some f → IsAsked b v f) → FailedInCommit (CommitReads b v.sectors batch d) e
+  pub says_refused : (batch : Words) (e : CommitError) → IsRefusal (by_table v) b v.sectors batch d e
+      → ((f : Fault) → commit_fault_in e ≡ Some f → IsAsked b v f) → FailedInCommit (CommitReads (by_table v) b v.sectors batch d) e
       → NoPlan b v d batch (commit_answer e).status (commit_answer e).reply
   says_refused batch (commit.NoTable e) is asked failed = table_refuses batch e is
   says_refused batch (commit.Edit r) is asked failed = (commit.Edit r, is, refl)
@@ -170,7 +170,7 @@ module _ (b : ℕ) (v : View) (d : Sectors) where
   table_unmends (table.Device at) (none, is) = absurd is
   table_unmends table.Memory (none, is) = absurd is
 
-  asks_mending : (f : Fault) → IsAsked b v f → FailedInRepair (RepairReads b v.sectors d) (repair.Device f)
+  asks_mending : (f : Fault) → IsAsked b v f → FailedInRepair (RepairReads (by_table v) b v.sectors d) (repair.Device f)
       → NoMending b v d (repair_answer (repair.Device f)).status (repair_answer (repair.Device f)).reply
   asks_mending (fault.Read at) is failed = (is, failed, refl)
   asks_mending (fault.Write at) is failed = absurd is
@@ -178,7 +178,7 @@ module _ (b : ℕ) (v : View) (d : Sectors) where
 
   -- an error of a repair
   pub says_unmended : (e : RepairError) → IsMendRefusal b d e → ((f : Fault) → repair_fault_in e ≡ Some f → IsAsked b v f)
-      → FailedInRepair (RepairReads b v.sectors d) e
+      → FailedInRepair (RepairReads (by_table v) b v.sectors d) e
       → NoMending b v d (repair_answer e).status (repair_answer e).reply
   says_unmended (repair.NoTable e) is asked failed = table_unmends e is
   says_unmended (repair.Unsound f) is asked failed = (repair.Unsound f, is, refl)
@@ -189,7 +189,7 @@ module _ (b : ℕ) (v : View) (d : Sectors) where
 
   -- a plan that is given, or not
   pub gives_plan : (batch : Words) (phases : List Writes) (old new : Buffers) (s : Status) (r : Reply)
-      → IsReady b v.sectors batch d phases → Gives phases old new s r → Planned b v d batch old new s r
+      → IsReady (by_table v) b v.sectors batch d phases → Gives phases old new s r → Planned b v d batch old new s r
   gives_plan batch phases old new status.Done r ready given = (phases, ready, given)
   gives_plan batch phases old new status.No r ready given = absurd given
   gives_plan batch phases old new status.Usage r ready given = absurd given
@@ -218,7 +218,7 @@ module _ (b : ℕ) (v : View) (d : Sectors) where
       → OfView b v NoBuffers (NoPlan b v d batch) s r → OfView b v (new ≡ old) (Planned b v d batch old new) s r
   gives_not batch old new s r same is = viewed NoBuffers (new ≡ old) (λ none. same) (not_given batch old new same) s r is
 
-  gives_mended : (phases : List Writes) (old new : Buffers) (s : Status) (r : Reply) → IsReadyToMend b d phases
+  gives_mended : (phases : List Writes) (old new : Buffers) (s : Status) (r : Reply) → IsReadyToMend (by_table v) b d phases
       → Gives phases old new s r → Mended b v d old new s r
   gives_mended phases old new status.Done r ready given = (phases, ready, given)
   gives_mended phases old new status.No r ready given = absurd given
@@ -231,7 +231,8 @@ module _ (b : ℕ) (v : View) (d : Sectors) where
   gives_mended phases old new status.Room r ready given = (phases, ready, given)
   gives_mended phases old new status.WantOther r ready given = absurd given
 
-  pub gives_mending : (phases : List Writes) (old new : Buffers) (s : Status) (r : Reply) → IsView b v → IsReadyToMend b d phases
+  pub gives_mending : (phases : List Writes) (old new : Buffers) (s : Status) (r : Reply) → IsView b v
+      → IsReadyToMend (by_table v) b d phases
       → Gives phases old new s r → MendedFor b v d old new s r
   gives_mending phases old new s r view ready given = inr (view, gives_mended phases old new s r ready given)
 

@@ -15,7 +15,7 @@ use Rattle.pt_plan.specs.declared.error.CommitError.{CommitError}
 use Rattle.pt_plan.specs.declared.error.CommitError.TheVariants as commit
 use Rattle.pt_plan.specs.declared.like_error.LikeError.{LikeError}
 use Rattle.pt_plan.specs.declared.like_error.LikeError.TheVariants as like
-use Rattle.pt_replay.specs.Claims.{NoAdopting, Adopted, AdoptedFor, OfOther, OfOtherSize, OfOtherCount, Says}
+use Rattle.pt_replay.specs.Claims.{kept, NoAdopting, Adopted, AdoptedFor, OfOther, OfOtherSize, OfOtherCount, Says}
 use Rattle.pt_replay.specs.Replies.{status_code, like_answer}
 use Rattle.pt_replay.specs.Given.{Buffers}
 use Rattle.pt_replay.specs.inner.Given.{Gives}
@@ -37,7 +37,7 @@ module _ (b : ℕ) (v o : View) (d e : Sectors) where
   SaysOf x = NoAdopting b v o d e (like_answer x).status (like_answer x).reply
 
   -- where the other disk denotes nothing
-  chain_unlike : (x : ChainError) → NotLike b e d (like.Other (table.Chain x)) → SaysOf (like.Other (table.Chain x))
+  chain_unlike : (x : ChainError) → NotLike (kept v) b e d (like.Other (table.Chain x)) → SaysOf (like.Other (table.Chain x))
   chain_unlike (chain.NoSignature at) is = (like.Other (table.Chain (chain.NoSignature at)), is, refl)
   chain_unlike (chain.BadRecord at) is = (like.Other (table.Chain (chain.BadRecord at)), is, refl)
   chain_unlike (chain.NotUpward at) is = (like.Other (table.Chain (chain.NotUpward at)), is, refl)
@@ -55,13 +55,14 @@ module _ (b : ℕ) (v o : View) (d e : Sectors) where
   other_unlike (table.Device at) is asked failed = (asked (fault.Read at) refl, failed, refl)
   other_unlike table.Memory is asked failed = refl
 
-  asks_adopting : (f : Fault) → IsAsked b v f → FailedInCommit (LikeReads b e d) (commit.Device f) → SaysOf (like.Disk (commit.Device f))
+  asks_adopting : (f : Fault) → IsAsked b v f → FailedInCommit (LikeReads (kept v) b e d) (commit.Device f)
+      → SaysOf (like.Disk (commit.Device f))
   asks_adopting (fault.Read at) is failed = (is, failed, refl)
   asks_adopting (fault.Write at) is failed = absurd is
   asks_adopting fault.Flush is failed = absurd is
 
-  disk_unlike : (x : CommitError) → NotLike b e d (like.Disk x) → ((f : Fault) → commit_fault_in x ≡ Some f → IsAsked b v f)
-      → FailedInCommit (LikeReads b e d) x → SaysOf (like.Disk x)
+  disk_unlike : (x : CommitError) → NotLike (kept v) b e d (like.Disk x) → ((f : Fault) → commit_fault_in x ≡ Some f → IsAsked b v f)
+      → FailedInCommit (LikeReads (kept v) b e d) x → SaysOf (like.Disk x)
   disk_unlike (commit.NoTable x) is asked failed = absurd (is.2.2 tt)
   disk_unlike (commit.Edit r) is asked failed = (like.Disk (commit.Edit r), is, refl)
   disk_unlike (commit.Plan x) is asked failed = (like.Disk (commit.Plan x), is, refl)
@@ -70,9 +71,9 @@ module _ (b : ℕ) (v o : View) (d e : Sectors) where
   disk_unlike commit.Memory is asked failed = refl
 
   -- an error of the planner
-  pub says_unlike : (x : LikeError) → NotLike b e d x → (x ≡ like.OtherSize → o.sectors ≢ v.sectors)
+  pub says_unlike : (x : LikeError) → NotLike (kept v) b e d x → (x ≡ like.OtherSize → o.sectors ≢ v.sectors)
       → (o.sectors ≢ v.sectors → x ≡ like.OtherSize) → ((f : Fault) → fault_in_disk x ≡ Some f → IsAsked b v f)
-      → ((f : Fault) → fault_in_other x ≡ Some f → IsAsked b o f) → FailedInLike (LikeReads b e d) x → FailedInOther (Reads b e) x
+      → ((f : Fault) → fault_in_other x ≡ Some f → IsAsked b o f) → FailedInLike (LikeReads (kept v) b e d) x → FailedInOther (Reads b e) x
       → OfOtherCount v o NoBuffers (NoAdopting b v o d e) (like_answer x).status (like_answer x).reply
   says_unlike like.OtherSize is differ same asked asked_other failed failed_other = inl (differ refl, refl, refl, tt)
   says_unlike (like.Other x) is differ same asked asked_other failed failed_other =
@@ -81,7 +82,7 @@ module _ (b : ℕ) (v o : View) (d e : Sectors) where
       inr (equal o.sectors v.sectors (λ not. let no = same not in cc), disk_unlike x is asked failed)
 
   -- a plan that is given, or not
-  gives_adopted : (phases : List Writes) (old new : Buffers) (s : Status) (r : Reply) → IsReadyLike b e d phases
+  gives_adopted : (phases : List Writes) (old new : Buffers) (s : Status) (r : Reply) → IsReadyLike (kept v) b e d phases
       → Gives phases old new s r → Adopted b v o d e old new s r
   gives_adopted phases old new status.Done r ready given = (phases, ready, given)
   gives_adopted phases old new status.No r ready given = absurd given
@@ -107,7 +108,7 @@ module _ (b : ℕ) (v o : View) (d e : Sectors) where
   not_adopted old new same status.WantOther r is = (is, same)
 
   pub gives_adopting : (phases : List Writes) (old new : Buffers) (s : Status) (r : Reply) → o.sector_size ≡ b → IsView b v → IsView b o
-      → o.sectors ≡ v.sectors → IsReadyLike b e d phases → Gives phases old new s r → AdoptedFor b v o d e old new s r
+      → o.sectors ≡ v.sectors → IsReadyLike (kept v) b e d phases → Gives phases old new s r → AdoptedFor b v o d e old new s r
   gives_adopting phases old new s r size view other count ready given =
       inr (size, inr (view, inr (other, inr (count, gives_adopted phases old new s r ready given))))
 

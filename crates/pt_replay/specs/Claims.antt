@@ -22,7 +22,9 @@ use Rattle.pt_check.specs.declared.answer.Why.{Why}
 use Rattle.pt_replay.specs.Replies.{status_code, the_path, the_random_bytes, nothing, answer, at_sector, switching, finding_answer}
 use Rattle.pt_replay.specs.Replies.{table_answer, commit_answer, repair_answer, why_reply, the_other_size, the_other_view, other_count}
 use Rattle.pt_replay.specs.Replies.{like_answer}
-use Rattle.pt_replay.specs.Wanted.{IsWanted, Judged, Tells, OfView, OrMemory, NoBuffers, IsView}
+use Rattle.pt_cases.specs.declared.primary.Primary.{Primary as Choice}
+use Rattle.pt_cases.specs.declared.primary.Primary.TheVariants as choice
+use Rattle.pt_replay.specs.Wanted.{IsWanted, Judged, Tells, OfView, OrMemory, NoBuffers, IsView, choice_of}
 use Rattle.pt_replay.specs.declared.answers.Status.{Status}
 use Rattle.pt_replay.specs.declared.answers.Status.TheVariants.{Done, No, Usage, Refused, NoTable, Device, Memory, Want, Room, WantOther}
 use Rattle.pt_replay.specs.declared.answers.Reply.{Reply}
@@ -99,9 +101,16 @@ abbrev pub LocatedFor : ℕ → View → Sectors → ℕ → ℕ → ℕ → Sta
 LocatedFor b v d number letter k =
     Judged (IsNamed number letter) (Tells the_path NoBuffers) (OfView b v NoBuffers (Located b v d number letter k))
 
+-- what becomes of the primary copy: of words and of repairs, and of the layout of another disk
+abbrev pub by_table : View → Choice
+by_table v = choice_of choice.Zeroed v.primary
+
+abbrev pub kept : View → Choice
+kept v = choice_of choice.Kept v.primary
+
 -- the words are refused for the reason that the answer tells, with this status
 abbrev pub IsRefused : ℕ → View → Sectors → Words → Status → Reply → Type 0
-IsRefused b v d batch s r = (e : CommitError) × IsRefusal b v.sectors batch d e × (commit_answer e ≡ answer s r)
+IsRefused b v d batch s r = (e : CommitError) × IsRefusal (by_table v) b v.sectors batch d e × (commit_answer e ≡ answer s r)
 
 -- no plan for the words: they are refused for the reason that the reply tells, or the disk denotes nothing, or no answer yet
 abbrev pub NoPlan : ℕ → View → Sectors → Words → Status → Reply → Type 0
@@ -112,13 +121,13 @@ NoPlan b v d batch Refused r = IsRefused b v d batch Refused r
 NoPlan b v d batch NoTable r = IsRefused b v d batch NoTable r
 NoPlan b v d batch Device r = ⊥
 NoPlan b v d batch Memory r = r ≡ nothing
-NoPlan b v d batch Want r = Wants b v (CommitReads b v.sectors batch d) r
+NoPlan b v d batch Want r = Wants b v (CommitReads (by_table v) b v.sectors batch d) r
 NoPlan b v d batch Room r = ⊥
 NoPlan b v d batch WantOther r = ⊥
 
 -- a checked plan for the words stands in the buffers, or it has no room there; or there is none, and they stay as they were
 abbrev pub Planned : ℕ → View → Sectors → Words → Buffers → Buffers → Status → Reply → Type 0
-Planned b v d batch old new Done r = (phases : List Writes) × IsReady b v.sectors batch d phases × Stands phases old new r
+Planned b v d batch old new Done r = (phases : List Writes) × IsReady (by_table v) b v.sectors batch d phases × Stands phases old new r
 Planned b v d batch old new No r = ⊥
 Planned b v d batch old new Usage r = ⊥
 Planned b v d batch old new Refused r = NoPlan b v d batch Refused r × (new ≡ old)
@@ -126,7 +135,7 @@ Planned b v d batch old new NoTable r = NoPlan b v d batch NoTable r × (new ≡
 Planned b v d batch old new Device r = ⊥
 Planned b v d batch old new Memory r = (r ≡ nothing) × (new ≡ old)
 Planned b v d batch old new Want r = NoPlan b v d batch Want r × (new ≡ old)
-Planned b v d batch old new Room r = (phases : List Writes) × IsReady b v.sectors batch d phases × HasNoPlace phases old new r
+Planned b v d batch old new Room r = (phases : List Writes) × IsReady (by_table v) b v.sectors batch d phases × HasNoPlace phases old new r
 Planned b v d batch old new WantOther r = ⊥
 
 -- the disk isn't repaired for the reason that the answer tells, with this status
@@ -142,13 +151,13 @@ NoMending b v d Refused r = IsUnmended b d Refused r
 NoMending b v d NoTable r = IsUnmended b d NoTable r
 NoMending b v d Device r = ⊥
 NoMending b v d Memory r = r ≡ nothing
-NoMending b v d Want r = Wants b v (RepairReads b v.sectors d) r
+NoMending b v d Want r = Wants b v (RepairReads (by_table v) b v.sectors d) r
 NoMending b v d Room r = ⊥
 NoMending b v d WantOther r = ⊥
 
 -- a checked plan for a repair stands in the buffers, or it has no room there; or there is none, and they stay as they were
 abbrev pub Mended : ℕ → View → Sectors → Buffers → Buffers → Status → Reply → Type 0
-Mended b v d old new Done r = (phases : List Writes) × IsReadyToMend b d phases × Stands phases old new r
+Mended b v d old new Done r = (phases : List Writes) × IsReadyToMend (by_table v) b d phases × Stands phases old new r
 Mended b v d old new No r = ⊥
 Mended b v d old new Usage r = ⊥
 Mended b v d old new Refused r = NoMending b v d Refused r × (new ≡ old)
@@ -156,7 +165,7 @@ Mended b v d old new NoTable r = NoMending b v d NoTable r × (new ≡ old)
 Mended b v d old new Device r = ⊥
 Mended b v d old new Memory r = (r ≡ nothing) × (new ≡ old)
 Mended b v d old new Want r = NoMending b v d Want r × (new ≡ old)
-Mended b v d old new Room r = (phases : List Writes) × IsReadyToMend b d phases × HasNoPlace phases old new r
+Mended b v d old new Room r = (phases : List Writes) × IsReadyToMend (by_table v) b d phases × HasNoPlace phases old new r
 Mended b v d old new WantOther r = ⊥
 
 -- the same, once the view is judged
@@ -213,26 +222,26 @@ Says claim code r = (s : Status) × (code ≡ status_code s) × claim s r
 -- ## What a status says of a plan by which the disk d becomes like the disk e, of which the caller has given the views v and o.
 
 -- the disk doesn't become like the other one for the reason that the answer tells, with this status
-abbrev pub IsUnlike : ℕ → Sectors → Sectors → Status → Reply → Type 0
-IsUnlike b d e s r = (x : LikeError) × NotLike b e d x × (like_answer x ≡ answer s r)
+abbrev pub IsUnlike : ℕ → View → Sectors → Sectors → Status → Reply → Type 0
+IsUnlike b v d e s r = (x : LikeError) × NotLike (kept v) b e d x × (like_answer x ≡ answer s r)
 
 -- no plan to become like the other disk; a sector that is wanted is one of the disk's or one of the other's, as the status says
 abbrev pub NoAdopting : ℕ → View → View → Sectors → Sectors → Status → Reply → Type 0
 NoAdopting b v o d e Done r = ⊥
 NoAdopting b v o d e No r = ⊥
 NoAdopting b v o d e Usage r = ⊥
-NoAdopting b v o d e Refused r = IsUnlike b d e Refused r
-NoAdopting b v o d e NoTable r = IsUnlike b d e NoTable r
+NoAdopting b v o d e Refused r = IsUnlike b v d e Refused r
+NoAdopting b v o d e NoTable r = IsUnlike b v d e NoTable r
 NoAdopting b v o d e Device r = ⊥
 NoAdopting b v o d e Memory r = r ≡ nothing
-NoAdopting b v o d e Want r = Wants b v (LikeReads b e d) r
+NoAdopting b v o d e Want r = Wants b v (LikeReads (kept v) b e d) r
 NoAdopting b v o d e Room r = ⊥
 NoAdopting b v o d e WantOther r = Wants b o (Reads b e) r
 
 -- a checked plan for the layout of the other disk stands in the buffers, or it has no room there; or there is none, and they stay as
 -- they were
 abbrev pub Adopted : ℕ → View → View → Sectors → Sectors → Buffers → Buffers → Status → Reply → Type 0
-Adopted b v o d e old new Done r = (phases : List Writes) × IsReadyLike b e d phases × Stands phases old new r
+Adopted b v o d e old new Done r = (phases : List Writes) × IsReadyLike (kept v) b e d phases × Stands phases old new r
 Adopted b v o d e old new No r = ⊥
 Adopted b v o d e old new Usage r = ⊥
 Adopted b v o d e old new Refused r = NoAdopting b v o d e Refused r × (new ≡ old)
@@ -240,7 +249,7 @@ Adopted b v o d e old new NoTable r = NoAdopting b v o d e NoTable r × (new ≡
 Adopted b v o d e old new Device r = ⊥
 Adopted b v o d e old new Memory r = (r ≡ nothing) × (new ≡ old)
 Adopted b v o d e old new Want r = NoAdopting b v o d e Want r × (new ≡ old)
-Adopted b v o d e old new Room r = (phases : List Writes) × IsReadyLike b e d phases × HasNoPlace phases old new r
+Adopted b v o d e old new Room r = (phases : List Writes) × IsReadyLike (kept v) b e d phases × HasNoPlace phases old new r
 Adopted b v o d e old new WantOther r = NoAdopting b v o d e WantOther r × (new ≡ old)
 
 -- the view of the other disk is judged

@@ -7,6 +7,8 @@ use Rattle.pt_sector.specs.Sectors.{Sectors, sector, IsSectorSize}
 use Rattle.pt_sector.specs.Device.{Told, Moment, told_of}
 use Rattle.pt_sector.specs.declared.disk.Fault.{Fault}
 use Rattle.pt_sector.specs.declared.disk.Fault.TheVariants.{Read, Write, Flush}
+use Rattle.pt_cases.specs.declared.primary.Primary.{Primary as Choice}
+use Rattle.pt_cases.specs.declared.primary.Primary.TheVariants as choice
 use Rattle.pt_replay.specs.declared.view.View.{View}
 use Rattle.pt_replay.specs.Replies.{the_size, the_view, nothing, bad_argument, counting}
 use Rattle.pt_replay.specs.declared.answers.Status.{Status}
@@ -51,6 +53,11 @@ pub record IsView (b : ℕ) (v : View) : Type 0 where
   pub size : IsSectorSize b
   pub whole : length v.bytes.now ≡ length v.numbers.now * b
   pub fits : v.sectors * b < 2 ^ 64
+  pub primary : v.primary ≤ 2
+
+-- what becomes of the primary copy in a plan, by a view's number and by what the call does of itself
+abbrev pub choice_of : Choice → ℕ → Choice
+choice_of of_itself number = if nat_eq number 1 then choice.Kept else if nat_eq number 2 then choice.Zeroed else of_itself
 
 -- the disk of a view: its sectors, and elsewhere what stands there
 abbrev pub disk_of : ℕ → View → Sectors → Sectors

@@ -6,7 +6,7 @@ ghost use Rattle.pt_apply.specs.Plans.{phases_of};
 ghost use Rattle.pt_plan.specs.Layouts.{IsReadyLike};
 ghost use Rattle.pt_replay.specs.Wanted.{disk_of, IsView, OfView, NoBuffers};
 ghost use Rattle.pt_replay.specs.Given.{buffers};
-ghost use Rattle.pt_replay.specs.Claims.{NoAdopting, OfOther, OfOtherCount, AdoptedFor};
+ghost use Rattle.pt_replay.specs.Claims.{kept, NoAdopting, OfOther, OfOtherCount, AdoptedFor};
 
 use crate::answers::Answer;
 use crate::giving::give_plan;
@@ -15,7 +15,7 @@ use crate::replay::ReplayDisk;
 use crate::rows::WriteRow;
 use crate::view::View;
 use pt_apply::Plan;
-use pt_plan::checked_plan_like;
+use pt_plan::{Primary, checked_plan_like_by};
 use pt_sector::Moments;
 use std::alloc::Global;
 
@@ -29,7 +29,7 @@ fn plan_like<const B: usize>(
     beyond: Moments<[u8; B]>,
 ) -> Result<Plan<B>, Answer>
     requires size { IsSectorSize B }
-    ensures ok { IfOk result (λ plan. IsReadyLike B (disk_of B other.now beyond.entry.items)
+    ensures ok { IfOk result (λ plan. IsReadyLike (kept view.now) B (disk_of B other.now beyond.entry.items)
         (disk_of B view.now elsewhere.entry.items) (phases_of plan)) }
     ensures view { IfOk result (λ plan. IsView B view.now) }
     ensures other { IfOk result (λ plan. IsView B other.now) }
@@ -44,7 +44,8 @@ fn plan_like<const B: usize>(
     let Some(mut model) = ReplayDisk::<B>::new(alloc, other, beyond) else {
         return Err(Answer::bad_argument(8));
     };
-    match checked_plan_like::<B, _, _>(alloc, &mut disk, &mut model) {
+    let primary = view.primary_or(Primary::Kept);
+    match checked_plan_like_by::<B, _, _>(alloc, &mut disk, &mut model, primary) {
         Ok(plan) => Ok(plan),
         Err(error) => Err(unlike(error)),
     }

@@ -7,7 +7,7 @@ ghost use Rattle.pt_plan.specs.Batches.{IsReady, IsReadyToMend};
 ghost use Rattle.pt_replay.specs.Wanted.{disk_of, IsView, OfView, NoBuffers};
 ghost use Rattle.pt_replay.specs.inner.Given.{batch_of};
 ghost use Rattle.pt_replay.specs.Given.{buffers};
-ghost use Rattle.pt_replay.specs.Claims.{NoPlan, Planned, PlannedFor, NoMending, MendedFor};
+ghost use Rattle.pt_replay.specs.Claims.{by_table, NoPlan, Planned, PlannedFor, NoMending, MendedFor};
 
 use crate::answers::Answer;
 use crate::asking::{edits_of, guids_of};
@@ -19,7 +19,7 @@ use crate::view::View;
 use pt_apply::Plan;
 use pt_edit::Edit;
 use pt_guid::Guid;
-use pt_plan::{checked_plan_for, checked_plan_for_repair};
+use pt_plan::{Primary, Wanted, checked_plan_for_repair_by, checked_plan_wanted};
 use pt_sector::Moments;
 use std::alloc::Global;
 
@@ -32,7 +32,7 @@ fn plan_words<const B: usize>(
     elsewhere: Moments<[u8; B]>,
 ) -> Result<Plan<B>, Answer>
     requires size { IsSectorSize B }
-    ensures ok { IfOk result (λ plan. IsReady B view.now.sectors (batch_of edits.now guids.now)
+    ensures ok { IfOk result (λ plan. IsReady (by_table view.now) B view.now.sectors (batch_of edits.now guids.now)
         (disk_of B view.now elsewhere.entry.items) (phases_of plan)) }
     ensures view { IfOk result (λ plan. IsView B view.now) }
     ensures err { IfErr result (λ a. OfView B view.now NoBuffers (NoPlan B view.now (disk_of B view.now elsewhere.entry.items)
@@ -41,7 +41,9 @@ fn plan_words<const B: usize>(
     let Some(mut disk) = ReplayDisk::<B>::new(alloc, view, elsewhere) else {
         return Err(Answer::bad_argument(2));
     };
-    match checked_plan_for::<B, _>(alloc, &mut disk, edits, guids) {
+    let wanted = Wanted::Edited(edits, guids);
+    let primary = view.primary_or(Primary::Zeroed);
+    match checked_plan_wanted::<B, _>(alloc, &mut disk, &wanted, primary) {
         Ok(plan) => Ok(plan),
         Err(error) => Err(refused(error)),
     }
@@ -108,7 +110,7 @@ fn plan_repair<const B: usize>(
     elsewhere: Moments<[u8; B]>,
 ) -> Result<Plan<B>, Answer>
     requires size { IsSectorSize B }
-    ensures ok { IfOk result (λ plan. IsReadyToMend B (disk_of B view.now elsewhere.entry.items) (phases_of plan)) }
+    ensures ok { IfOk result (λ plan. IsReadyToMend (by_table view.now) B (disk_of B view.now elsewhere.entry.items) (phases_of plan)) }
     ensures view { IfOk result (λ plan. IsView B view.now) }
     ensures err { IfErr result (λ a. OfView B view.now NoBuffers (NoMending B view.now (disk_of B view.now elsewhere.entry.items))
         a.status a.reply) }
@@ -116,7 +118,8 @@ fn plan_repair<const B: usize>(
     let Some(mut disk) = ReplayDisk::<B>::new(alloc, view, elsewhere) else {
         return Err(Answer::bad_argument(2));
     };
-    match checked_plan_for_repair::<B, _>(alloc, &mut disk) {
+    let primary = view.primary_or(Primary::Zeroed);
+    match checked_plan_for_repair_by::<B, _>(alloc, &mut disk, primary) {
         Ok(mending) => Ok(mending),
         Err(error) => Err(unmended(error)),
     }

@@ -32,7 +32,8 @@ pub struct ReplayDisk<'a, const B: usize> {
 }
 
 impl<'a, const B: usize> ReplayDisk<'a, B> {
-    /// None where there are not as many sectors as numbers, a sector isn't whole, or the disk has 2^64 bytes.
+    /// None where there are not as many sectors as numbers, a sector isn't whole, the disk has 2^64 bytes, or the view's `primary`
+    /// is none of its numbers.
     pub fn new(
         alloc: Global,
         view: &View<'a>,
@@ -46,7 +47,7 @@ impl<'a, const B: usize> ReplayDisk<'a, B> {
         ensures fresh { IfSome result (λ d. d.failed.items ≡ []) }
     {
         let (known, rest) = view.bytes.as_chunks::<B>();
-        if rest.len() != 0 || view.numbers.len() != known.len() {
+        if rest.len() != 0 || view.numbers.len() != known.len() || view.primary > 2 {
             return None;
         }
         view.sectors.checked_mul(B as u64)?;

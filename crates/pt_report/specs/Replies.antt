@@ -1,5 +1,5 @@
 -- The text of each answer.
-use Rattle.std.specs.Prelude.{ℕ, List, [], ◌∷◌, ◌++◌, codes, decimal, Option, Some, None, string_bytes}
+use Rattle.std.specs.Prelude.{ℕ, List, [], ◌∷◌, ◌++◌, codes, decimal, flat_map, Option, Some, None, string_bytes, ◌≡◌}
 use Rattle.pt_sector.specs.declared.address.Lba.{Lba}
 use Rattle.pt_gpt.specs.Copies.{error_number}
 use Rattle.pt_mbr.specs.declared.chain.ChainError.{ChainError}
@@ -22,8 +22,9 @@ use Rattle.pt_check.specs.declared.answer.Answer.TheVariants as answer
 use Rattle.pt_check.specs.declared.answer.Why.{Why}
 use Rattle.pt_check.specs.declared.answer.Why.TheVariants as why
 use Rattle.pt_check.specs.Answers.{why_number}
+use Rattle.pt_edit.specs.declared.space.space.Run.{Run}
 use Rattle.pt_report.specs.declared.reply.Reply.{Reply}
-use Rattle.pt_report.specs.declared.reply.Reply.TheVariants.{Text, Layout, Place, Checked, Done}
+use Rattle.pt_report.specs.declared.reply.Reply.TheVariants.{Text, Layout, Place, Free, Checked, Done}
 use Rattle.pt_report.specs.declared.reply.Reply.TheVariants as reply
 
 -- ## Why a disk denotes no layout, as it is printed.
@@ -68,7 +69,7 @@ no_side_text side of_side.TooSmall = line (codes "no table: too small" ∷ [])
 no_side_text side (of_side.Device at) = device_line
 no_side_text side of_side.Memory = memory_line
 
--- ## The lines of a verdict, of the checker's answer, and of a place.
+-- ## The lines of a verdict, of the checker's answer, of a place, and of blocks.
 
 -- what a finding says, and what it names
 abbrev pub finding_fields : Finding → List (List ℕ)
@@ -116,6 +117,14 @@ abbrev pub place_line : Option Lba → List ℕ
 place_line None = line (codes "none" ∷ [])
 place_line (Some at) = line (decimal at.0 ∷ [])
 
+-- the first and the last sector of a block
+abbrev pub block_line : Run → List ℕ
+block_line r = line (decimal r.first ∷ decimal r.last ∷ [])
+
+abbrev pub blocks_text : List Run → List ℕ
+blocks_text [] = line (codes "none" ∷ [])
+blocks_text (b ∷ bs) = flat_map block_line (b ∷ bs)
+
 -- ## The answers of the command, as they are printed.
 
 -- what is printed for an answer on an image with sectors of b bytes
@@ -124,12 +133,14 @@ reply_text b (Text text) = string_bytes text
 reply_text b (Layout o) = layout_text b o
 reply_text b (reply.Verdict verdict) = verdict_line verdict
 reply_text b (Place place) = place_line place
+reply_text b (Free blocks) = blocks_text blocks.items
 reply_text b (Checked answer) = answer_line answer
 reply_text b Done = line (codes "done" ∷ [])
 
--- the answer is a no: a finding, no such sector, or the checker's no
+-- the answer is a no: a finding, no such sector, no block, or the checker's no
 abbrev pub IsNo : Reply → Type 0
 IsNo (reply.Verdict (verdict.No finding)) = Unit {0}
 IsNo (Place None) = Unit {0}
+IsNo (Free blocks) = blocks.items ≡ []
 IsNo (Checked (answer.No why)) = Unit {0}
 IsNo _ = ⊥

@@ -1,6 +1,7 @@
 //! The answers of the command, and the lines in which it tells them and why a disk denotes no layout (docs/commands.md).
 #![tactic(auto)]
 
+mod blocks;
 mod finding;
 pub mod laws;
 mod layout;

@@ -4,10 +4,12 @@ ghost use Rattle.std.specs.Prelude.{◌↔◌, IsTrue, OnOk};
 ghost use Rattle.std.specs.Io.KnownBytes.{Appends};
 ghost use Rattle.pt_report.specs.Replies.{IsNo, reply_text, answer_line, place_line, verdict_line};
 
+use crate::blocks::print_blocks;
 use crate::finding::print_finding;
 use crate::layout::print_layout;
 use crate::why::print_no;
 use pt_check::Answer;
+use pt_edit::space::Run;
 use pt_layout::{Layout, Verdict};
 use pt_sector::Lba;
 use std::io;
@@ -22,6 +24,8 @@ pub enum Reply {
     Verdict(Verdict),
     /// Where on the disk a partition's sector is, if it is anywhere.
     Place(Option<Lba>),
+    /// The blocks of sectors where a new partition may lie.
+    Free(Vec<Run>),
     Checked(Answer),
     /// What was to be written is written.
     Done,
@@ -35,6 +39,7 @@ impl Reply {
         match self {
             Reply::Verdict(Verdict::No(_)) | Reply::Place(None) | Reply::Checked(Answer::No(_)) =>
                 true,
+            Reply::Free(blocks) => blocks.is_empty(),
             _ => false,
         }
     }
@@ -49,6 +54,7 @@ impl Reply {
             Reply::Layout(layout) => print_layout::<B, O>(out, layout),
             Reply::Verdict(verdict) => print_verdict(out, verdict),
             Reply::Place(place) => print_place(out, *place),
+            Reply::Free(blocks) => print_blocks(out, blocks.as_slice()),
             Reply::Checked(answer) => print_answer(out, *answer),
             Reply::Done => out.write_all(b"done\n"),
         }

@@ -1,5 +1,5 @@
 -- Free sectors, and where a new partition is placed: what private contracts cite.
-use Rattle.std.specs.Prelude.{◌≡◌, ◌≤◌, ◌+◌, ◌-◌, ◌^◌, ℕ, Option, Some, None, if◌then◌else◌, nat_lt, nat_le, min}
+use Rattle.std.specs.Prelude.{◌≡◌, ◌≤◌, ◌+◌, ◌-◌, ◌^◌, ◌++◌, ◌∷◌, [], ℕ, List, Option, Some, None, if◌then◌else◌, nat_lt, nat_le, min}
 use Rattle.pt_edit.specs.declared.space.space.Run.{Run}
 use Rattle.pt_edit.specs.Space.{Area, IsFree, IsBlock, start_of, room, IsLargest, StartsIn}
 
@@ -29,6 +29,10 @@ gap_of a first run = record { first = first; last = min (run.first - 1) a.high }
 abbrev pub best_past : Area → ℕ → Option Run → ℕ → Run → Option Run
 best_past a alignment best first run =
     if nat_lt first run.first then longer_of best (part_of a alignment (gap_of a first run)) else best
+
+-- a list with that gap behind it, where there is one
+abbrev pub with_gap : Area → List Run → ℕ → Run → List Run
+with_gap a blocks first run = if nat_lt first run.first then blocks ++ gap_of a first run ∷ [] else blocks
 
 -- the part of a block
 pub record IsPart (a : Area) (alignment : ℕ) (b r : Run) : Type 0 where

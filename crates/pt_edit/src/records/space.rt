@@ -13,7 +13,11 @@ use std::alloc::{AllocError, Global};
 const LAST: u128 = 0xFFFF_FFFF;
 
 // Where there is a place for one more on a disk of so many sectors.
-fn space_of(alloc: Global, sectors: u64, records: &[Option<Record>; 4]) -> Result<Space, AllocError>
+pub(crate) fn record_space(
+    alloc: Global,
+    sectors: u64,
+    records: &[Option<Record>; 4],
+) -> Result<Space, AllocError>
     ensures { IfOk result (λ space. area_of space ≡ disk_area sectors records.now) }
 {
     let taken = taken_by_records(alloc, records)?;
@@ -37,6 +41,6 @@ pub(crate) fn place_record(
     ensures err { IfErr result (λ refusal. refusal ≢ Refusal.Memory
         → NotPlaced (disk_area sectors records.now) asked.now.alignment asked.now.start asked.now.end refusal) }
 {
-    let space = space_of(alloc, sectors, records)?;
+    let space = record_space(alloc, sectors, records)?;
     place(space, asked.alignment, asked.start, asked.end)
 }

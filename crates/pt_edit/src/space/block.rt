@@ -1,11 +1,12 @@
 //! Blocks: runs of free sectors with none before or after them.
 
-ghost use Rattle.std.specs.Prelude.{◌≡◌, ◌<◌, ◌≤◌, ◌+◌, ◌↔◌, IsTrue, IfSome};
+ghost use Rattle.std.specs.Prelude.{◌≡◌, ◌<◌, ◌≤◌, ◌+◌, ◌↔◌, IsTrue, IfOk, IfSome, OnOk};
 ghost use Rattle.std.specs.List.Sorted.{IsNonDecreasingBy};
-ghost use Rattle.pt_edit.specs.Space.{area_of, empties_of, IsInRuns, IsFree, lead_size, rounded_up};
-ghost use Rattle.pt_edit.specs.inner.Space.{Fits128, part_of, longer_of, best_past, Best, EndsBlock};
+ghost use Rattle.pt_edit.specs.Space.{area_of, empties_of, AreBlocks, IsInRuns, IsFree, lead_size, rounded_up};
+ghost use Rattle.pt_edit.specs.inner.Space.{Fits128, part_of, longer_of, best_past, Best, EndsBlock, with_gap};
 
 use crate::space::space::{Lead, Run, Space};
+use std::alloc::{AllocError, Global};
 
 pub(crate) fn is_in(runs: &[Run], k: u128) -> bool
     ensures { IsTrue result ↔ IsInRuns runs.now k }
@@ -126,4 +127,48 @@ pub(crate) fn block_end(space: &Space, first: u128) -> u128
         }
     }
     last
+}
+
+// Adds the gap before a taken run, where there is one.
+fn push_gap(blocks: &mut Vec<Run>, space: &Space, first: u128, run: &Run) -> Result<(), AllocError>
+    ensures { OnOk result (blocks.new.items ≡ with_gap (area_of space.now) blocks.old.items first run.now) }
+{
+    if first < run.first {
+        let last = (run.first - 1).min(space.high);
+        blocks.push(Run { first, last })?;
+    }
+    Ok(())
+}
+
+// Of taken runs by ascending first sector, the blocks between them.
+fn between(alloc: Global, space: &Space) -> Result<Vec<Run>, AllocError>
+    requires { IsNonDecreasingBy (λ r. r.first) space.now.taken.items }
+    ensures { IfOk result (λ list. AreBlocks (area_of space.now) list.items) }
+{
+    let mut blocks = Vec::new(alloc);
+    if space.low > space.high {
+        return Ok(blocks);
+    }
+    let mut first = space.low;
+    for run in &space.taken {
+        if run.first <= run.last {
+            push_gap(&mut blocks, space, first, run)?;
+            if run.last >= space.high {
+                return Ok(blocks);
+            }
+            first = first.max(run.last + 1);
+        }
+    }
+    let last = space.high;
+    blocks.push(Run { first, last })?;
+    Ok(blocks)
+}
+
+/// All blocks, in ascending order.
+pub fn blocks(alloc: Global, space: Space) -> Result<Vec<Run>, AllocError>
+    ensures { IfOk result (λ list. AreBlocks (area_of space) list.items) }
+{
+    let mut space = space;
+    space.taken.sort_unstable_by_key(|run| run.first);
+    between(alloc, &space)
 }

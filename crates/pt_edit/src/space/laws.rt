@@ -4,7 +4,8 @@ ghost use Rattle.std.specs.Prelude.{◌≡◌, ◌≢◌, ◌≤◌, ◌*◌, �
 ghost use Rattle.pt_edit.specs.declared.space.space.Run.{Run};
 ghost use Rattle.pt_words.specs.declared.word.End.{End};
 ghost use Rattle.pt_words.specs.declared.error.Refusal.{Refusal};
-ghost use Rattle.pt_edit.specs.Space.{SameSectors, with_taken, Area, IsFreeRun, rounded_up, IsRoundedUp, Placed, NotPlaced};
+ghost use Rattle.pt_edit.specs.Space.{AreBlocks, SameSectors, with_taken, Area, IsBlock, IsFreeRun, rounded_up, IsRoundedUp};
+ghost use Rattle.pt_edit.specs.Space.{Placed, NotPlaced};
 
 /// One run at most is placed.
 pub fn placed_one()
@@ -27,6 +28,19 @@ pub fn placed_is_not_refused()
 /// What is placed has sectors, all usable and none taken, and before them room for the record that leads it.
 pub fn placed_is_free()
     ensures { (a : Area) (alignment start : ℕ) (end : End) (r : Run) → Placed a alignment start end r → IsFreeRun a r }
+{}
+
+/// An area has one list of blocks.
+#[tactic(auto, using(crate::proofs::AllBlocks::blocks_are_one))]
+pub fn blocks_one()
+    ensures { (a : Area) (xs ys : List Run) → AreBlocks a xs → AreBlocks a ys → xs ≡ ys }
+{}
+
+/// What is placed lies in a block.
+#[tactic(auto, using(crate::proofs::AllBlocks::placed_within))]
+pub fn placed_in_block()
+    ensures { (a : Area) (alignment start : ℕ) (end : End) (r : Run) → Placed a alignment start end r
+        → (b : Run) × IsBlock a b × (b.first ≤ r.first) × (r.last ≤ b.last) }
 {}
 
 /// A sector rounded up is the least multiple of the alignment that isn't below it.

@@ -3,13 +3,16 @@ use Rattle.std.specs.Prelude.{List, [], ◌∷◌, false, codes}
 use Rattle.std.specs.Borrow.{Bor}
 use Rattle.clap.specs.Words.{App, Rule, Text}
 use Rattle.pt_line.specs.declared.pages.Subcommand.{Subcommand}
-use Rattle.pt_line.specs.declared.pages.Subcommand.TheVariants.{Show, Verify, Locate, Edit, Plan, Check, Apply, Repair, Adopt}
-use Rattle.pt_line.specs.CommandLine.{image_rules, show_rules, place_rules, word_rules, plan_rules, other_rules, writing, subcommand, top}
+use Rattle.pt_line.specs.declared.pages.Subcommand.TheVariants.{Show, Verify, Locate, Free, Types, Edit, Plan, Check, Apply, Repair, Adopt}
+use Rattle.pt_line.specs.CommandLine.{image_rules, show_rules, place_rules, word_rules, plan_rules, mend_rules, other_rules, writing}
+use Rattle.pt_line.specs.CommandLine.{subcommand, top}
 
 abbrev pub name_of : Subcommand → Text
 name_of Show = codes "show"
 name_of Verify = codes "verify"
 name_of Locate = codes "locate"
+name_of Free = codes "free"
+name_of Types = codes "types"
 name_of Edit = codes "edit"
 name_of Plan = codes "plan"
 name_of Check = codes "check"
@@ -21,11 +24,13 @@ abbrev pub rules_of : Bor (List (Bor Text)) → Subcommand → List Rule
 rules_of sizes Show = show_rules sizes
 rules_of sizes Verify = image_rules sizes
 rules_of sizes Locate = place_rules sizes
+rules_of sizes Free = image_rules sizes
+rules_of sizes Types = []
 rules_of sizes Edit = writing (word_rules sizes)
 rules_of sizes Plan = word_rules sizes
 rules_of sizes Check = plan_rules sizes
 rules_of sizes Apply = writing (plan_rules sizes)
-rules_of sizes Repair = writing (image_rules sizes)
+rules_of sizes Repair = writing (mend_rules sizes)
 rules_of sizes Adopt = writing (other_rules sizes)
 
 -- a subcommand as a command of its own

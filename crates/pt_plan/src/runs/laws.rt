@@ -6,7 +6,8 @@ ghost use Rattle.pt_sector.specs.Sectors.{Sectors, Writes};
 ghost use Rattle.pt_apply.specs.Plans.{Settled};
 ghost use Rattle.pt_recover.specs.Denotes.{Denotes};
 ghost use Rattle.pt_members.specs.declared.layout.Layout.{Layout as LayoutValue};
-ghost use Rattle.pt_plan.specs.Batches.{Words, Change, by_words, to_layout, ChangedBy, CommitsChange, Repairs};
+ghost use Rattle.pt_cases.specs.declared.primary.Primary.{Primary as Choice};
+ghost use Rattle.pt_plan.specs.Batches.{Words, Change, by_words, to_layout, ChangedBy, CommitsChange, CommitsAny, Repairs, RepairsAny};
 ghost use Rattle.pt_plan.specs.Layouts.{BecomesLike};
 ghost use Rattle.pt_plan.specs.Sessions.{SessionOf, RunOf, call_of, CallCarries, CallsCarry, RunKeepsHistory, Call, answered, Step};
 ghost use Rattle.pt_plan.specs.Sessions.{a_commit, a_plan, nothing};
@@ -27,13 +28,14 @@ pub fn history_begins()
 
 /// A commit, of words or of a layout, is a call that carries every history on.
 pub fn commit_carries()
-    ensures { (b n : ℕ) (change : Change) (result : Result Unit CommitErrorValue) (old new : Told)
-        → CommitsChange b n change result old new → CallCarries b n (call_of change result) old new }
+    ensures { (primary : Choice) (b n : ℕ) (change : Change) (result : Result Unit CommitErrorValue) (old new : Told)
+        → CommitsChange primary b n change result old new → CallCarries b n (call_of change result) old new }
 {}
 
 /// A commit of another disk's layout is a commit of that layout, or nothing was done. The two disks have as many sectors.
 pub fn commit_like_is_a_step()
-    ensures { (b : ℕ) (e : Sectors) (result : Result Unit LikeErrorValue) (old new : Told) → BecomesLike b e result old new
+    ensures { (primary : Choice) (b : ℕ) (e : Sectors) (result : Result Unit LikeErrorValue) (old new : Told)
+        → BecomesLike primary b e result old new
         → RunOf b (length e) (nothing ∷ []) old new
         ⊎ ((l : LayoutValue) × (told : Result Unit CommitErrorValue) × Denotes b e (Some l)
         × RunOf b (length e) (a_commit (to_layout l) told ∷ []) old new) }
@@ -74,13 +76,13 @@ pub fn two_calls_carry()
 
 /// A repair is a call that carries every history on, and changes nothing of it.
 pub fn repair_carries()
-    ensures { (b n : ℕ) (result : Result Unit RepairErrorValue) (old new : Told) → Repairs b n result old new
+    ensures { (primary : Choice) (b n : ℕ) (result : Result Unit RepairErrorValue) (old new : Told) → Repairs primary b n result old new
         → CallCarries b n unchanged old new }
 {}
 
 /// A session's batches, as calls, carry every history on.
 pub fn session_carries()
-    ensures { (b n : ℕ) (ws : List Words) (rs : List ReplyValue) (old new : Told) → SessionOf b n ws rs old new
+    ensures { (primary : Choice) (b n : ℕ) (ws : List Words) (rs : List ReplyValue) (old new : Told) → SessionOf primary b n ws rs old new
         → CallsCarry b n (calls_of (map by_words ws) rs) old new }
 {}
 
@@ -110,7 +112,7 @@ pub fn run_goes_on()
 pub fn acknowledged_stays()
     ensures { (b n : ℕ) (steps : List (Step Change)) (change : Change) (result : Result Unit CommitErrorValue) (old mid new : Told)
         (d : Sectors) (o : Option LayoutValue) (c : Sectors) → RunOf b n steps old mid
-        → CommitsChange b n change result mid new
+        → CommitsAny b n change result mid new
         → Settled old d → Denotes b d o → IsLeftBy mid new c
         → Has (Denotes b) (ChangedBy b n) o (answered (calls_of_all steps) ++ Either change ∷ []) c }
 {}
@@ -132,20 +134,20 @@ pub fn crash_begins_again()
 /// Runs with a crash in or after each: of the calls that were begun before each crash, something is known.
 pub fn lives_are_known()
     ensures { (b n : ℕ) (runs : List (List (Step Change))) (d e : Sectors) (o : Option LayoutValue) → Denotes b d o
-        → Lives (CommitsChange b n) (Repairs b n) (Applies b) runs d e
-        → (known : List (Past Change)) × LivesKnown (CommitsChange b n) (Repairs b n) (Applies b) runs known d e }
+        → Lives (CommitsAny b n) (RepairsAny b n) (Applies b) runs d e
+        → (known : List (Past Change)) × LivesKnown (CommitsAny b n) (RepairsAny b n) (Applies b) runs known d e }
 {}
 
 /// Whichever they are, what the last crash leaves denotes what they make, run by run, of what the first run began with. Each
 /// that had answered before its run's crash is in as it answered. The one that a crash was inside of, if any, is done or not.
 pub fn lives_keep_history()
     ensures { (b n : ℕ) (runs : List (List (Step Change))) (known : List (Past Change)) (d e : Sectors) (o : Option LayoutValue)
-        → Denotes b d o → LivesKnown (CommitsChange b n) (Repairs b n) (Applies b) runs known d e
+        → Denotes b d o → LivesKnown (CommitsAny b n) (RepairsAny b n) (Applies b) runs known d e
         → Has (Denotes b) (ChangedBy b n) o known e }
 {}
 
 /// After a commit or a repair that is done, the next repair calls one flush, and writes nothing.
 pub fn second_repair_is_idle()
     ensures { (b n : ℕ) (change : Change) (result : Result Unit RepairErrorValue) (old mid new : Told)
-        → CommitsChange b n change (Ok tt) old mid ⊎ Repairs b n (Ok tt) old mid → Repairs b n result mid new → OnlyFlushes mid new }
+        → CommitsAny b n change (Ok tt) old mid ⊎ RepairsAny b n (Ok tt) old mid → RepairsAny b n result mid new → OnlyFlushes mid new }
 {}

@@ -2,6 +2,7 @@
 
 ghost use Rattle.std.specs.Prelude.{◌≡◌, [], ◌∷◌, ◌++◌, map, IfOk, OnErr};
 ghost use Rattle.pt_sector.specs.Sectors.{IsSectorSize};
+ghost use Rattle.pt_cases.specs.declared.primary.Primary.TheVariants.{Zeroed};
 ghost use Rattle.pt_plan.specs.Batches.{Commits};
 ghost use Rattle.pt_plan.specs.Sessions.{batch_of, CommitsByReads, SessionOf, SessionByReads, AreReplies, faults_in};
 ghost use Rattle.pt_plan.specs.inner.Sessions.{Replied, Tried};
@@ -45,9 +46,9 @@ fn attempt<const B: usize, D: Disk<B>>(
     ensures name { D.name disk.new ≡ D.name disk.old }
     ensures replied { Replied faulted.old result faulted.new }
     ensures blames { D.faults disk.new ≡ D.faults disk.old ++ faults_in (result ∷ []) }
-    ensures tried { D.tells → Tried (Commits B (D.count disk.old)) (record { edits = edits.now; guids = guids.now }) result
+    ensures tried { D.tells → Tried (Commits Zeroed B (D.count disk.old)) (record { edits = edits.now; guids = guids.now }) result
         (D.told disk.old) (D.told disk.new) }
-    ensures place { D.tells → Tried (CommitsByReads B (D.count disk.old)) (record { edits = edits.now; guids = guids.now }) result
+    ensures place { D.tells → Tried (CommitsByReads Zeroed B (D.count disk.old)) (record { edits = edits.now; guids = guids.now }) result
         (D.told disk.old) (D.told disk.new) }
 {
     if *faulted {
@@ -80,9 +81,9 @@ pub fn session<const B: usize, D: Disk<B>>(
     ensures replies { IfOk result (λ rs. AreReplies (map batch_of batches.now) rs.items) }
     ensures blames { IfOk result (λ rs. D.faults disk.new ≡ D.faults disk.old ++ faults_in rs.items) }
     ensures session { D.tells → IfOk result
-        (λ rs. SessionOf B (D.count disk.old) (map batch_of batches.now) rs.items (D.told disk.old) (D.told disk.new)) }
+        (λ rs. SessionOf Zeroed B (D.count disk.old) (map batch_of batches.now) rs.items (D.told disk.old) (D.told disk.new)) }
     ensures place { D.tells → IfOk result
-        (λ rs. SessionByReads B (D.count disk.old) (map batch_of batches.now) rs.items (D.told disk.old) (D.told disk.new)) }
+        (λ rs. SessionByReads Zeroed B (D.count disk.old) (map batch_of batches.now) rs.items (D.told disk.old) (D.told disk.new)) }
 {
     let mut replies = Vec::with_capacity(alloc, batches.len())?;
     let mut faulted = false;

@@ -7,12 +7,14 @@ use pt_apply::Plan;
 use pt_disks::in_memory::MemDisk;
 use pt_layout::{Layout, NoTable, Verdict, recover, verify};
 use pt_plan::{
-    CommitError, LikeError, PlanError, checked_plan_for_layout, checked_plan_like, commit_layout,
-    commit_like, plan_for_layout, plan_like,
+    CommitError, LikeError, PlanError, Primary, Wanted, checked_plan_for_layout, checked_plan_like,
+    checked_plan_like_by, checked_plan_wanted, commit_layout, commit_like, commit_like_by,
+    commit_wanted, plan_for_layout, plan_for_repair_by, plan_like, plan_like_by, plan_wanted,
+    repair_by,
 };
 use std::alloc::Global;
 use std::test::Fail;
-use test_samples::{holds, image_of, made, put_mbr, record};
+use test_samples::{holds, image_of, made, put, put_mbr, record};
 
 /// A GPT disk of so many sectors with one partition, which has a name.
 fn other_disk<const B: usize>(alloc: Global, sectors: u64) -> Result<MemDisk<B>, Fail>
@@ -150,10 +152,68 @@ fn plans_for_a_layout_on_an_empty_disk(rt: HostRuntime) -> Result<(), Fail> {
     let mut other = other_disk::<512>(alloc, 4096)?;
     let wanted = recover(alloc, &mut other)?;
     let mut disk: MemDisk<512> = MemDisk::new(alloc, 4096)?;
+    // zeros stand in sector 1 already
+    let kept = [32, 1, 33, 1, 0];
+    assert!(rt; counts(&plan_for_layout(alloc, &mut disk, &wanted)?) == kept);
+    assert!(rt; counts(&checked_plan_for_layout(alloc, &mut disk, &wanted)?) == kept);
+    assert!(rt; counts(&plan_like(alloc, &mut disk, &mut other)?) == kept);
+    assert!(rt; counts(&checked_plan_like(alloc, &mut disk, &mut other)?) == kept);
+    Ok(())
+}
+
+#[test]
+fn plans_by_the_table_on_an_empty_disk(rt: HostRuntime) -> Result<(), Fail> {
+    let alloc = rt.alloc();
+    let by_table = Primary::Zeroed;
+    let mut other = other_disk::<512>(alloc, 4096)?;
+    let layout = recover(alloc, &mut other)?;
+    let wanted = Wanted::Layout(&layout);
+    let mut disk: MemDisk<512> = MemDisk::new(alloc, 4096)?;
     let five = [1, 32, 1, 33, 1];
-    assert!(rt; counts(&plan_for_layout(alloc, &mut disk, &wanted)?) == five);
-    assert!(rt; counts(&checked_plan_for_layout(alloc, &mut disk, &wanted)?) == five);
-    assert!(rt; counts(&plan_like(alloc, &mut disk, &mut other)?) == five);
-    assert!(rt; counts(&checked_plan_like(alloc, &mut disk, &mut other)?) == five);
+    assert!(rt; counts(&plan_wanted(alloc, &mut disk, &wanted, by_table)?) == five);
+    assert!(rt; counts(&checked_plan_wanted(alloc, &mut disk, &wanted, by_table)?) == five);
+    assert!(rt; counts(&plan_like_by(alloc, &mut disk, &mut other, by_table)?) == five);
+    assert!(rt; counts(&checked_plan_like_by(alloc, &mut disk, &mut other, by_table)?) == five);
+    Ok(())
+}
+
+/// Whether a layout is committed, by the table and with the primary copy kept, also as that of another disk, and a lost backup
+/// copy mended.
+fn is_wanted<const B: usize>(alloc: Global, primary: Primary) -> Result<bool, Fail>
+    requires { IsSectorSize B }
+{
+    let mut other = other_disk::<B>(alloc, 4096)?;
+    let wanted = recover(alloc, &mut other)?;
+    let mut disk = mbr_disk::<B>(alloc)?;
+    commit_wanted(alloc, &mut disk, &Wanted::Layout(&wanted), primary)?;
+    let first = has(alloc, &mut disk, &wanted)?;
+    let mut blank: MemDisk<B> = MemDisk::new(alloc, 4096)?;
+    commit_like_by(alloc, &mut blank, &mut other, primary)?;
+    let second = has(alloc, &mut blank, &wanted)?;
+    put(&mut blank, 4095, &[0; B])?;
+    repair_by(alloc, &mut blank, primary)?;
+    Ok(first && second && has(alloc, &mut blank, &wanted)?)
+}
+
+#[test]
+fn a_layout_is_committed_either_way(rt: HostRuntime) -> Result<(), Fail> {
+    for primary in [Primary::Zeroed, Primary::Kept] {
+        assert!(rt; is_wanted::<512>(rt.alloc(), primary)?);
+        assert!(rt; is_wanted::<4096>(rt.alloc(), primary)?);
+    }
+    Ok(())
+}
+
+#[test]
+fn a_lost_backup_is_mended_alone(rt: HostRuntime) -> Result<(), Fail> {
+    let alloc = rt.alloc();
+    let mut disk = other_disk::<512>(alloc, 4096)?;
+    put(&mut disk, 4095, &[0; 512])?;
+    let kept = plan_for_repair_by(alloc, &mut disk, Primary::Kept)?;
+    assert!(rt; counts(&kept) == [33, 0, 0, 0, 0]);
+    let by_table = plan_for_repair_by(alloc, &mut disk, Primary::Zeroed)?;
+    assert!(rt; counts(&by_table) == [33, 1, 32, 1, 0]);
+    let own = plan_wanted(alloc, &mut disk, &Wanted::Own, Primary::Kept)?;
+    assert!(rt; counts(&own) == [33, 0, 0, 0, 0]);
     Ok(())
 }

@@ -8,4 +8,4 @@ returns-in-Err-open g c =
 pub returns : goal.returns
 returns g c =
     on_images _ _ _ _ _ _ _ _ _ _ _ _ _ _ _ _ _ _ _ c.in-Ok.is c.open.ensures c.in-Ok-open.is c.open-2.ensures c.close-2.ensures
-    c.close-3.ensures c.plan_adopting-answer.ensures.plans
+    c.close-3.ensures (rw (c.primary_of.ensures) at c.plan_adopting-answer.ensures.plans)

@@ -9,4 +9,5 @@ returns-in-Err-open g c =
 pub returns : goal.returns
 returns g c =
     on_images _ _ _ _ _ _ _ _ _ _ _ _ _ _ _ _ _ _ _ c.in-Ok.is c.open.ensures c.in-Ok-open.is
-    (rw (c.access_for.ensures) at c.open-2.ensures) c.close-2.ensures c.close-3.ensures c.adopt_disk-answer.ensures.adopts
+    (rw (c.access_for.ensures) at c.open-2.ensures) c.close-2.ensures c.close-3.ensures
+    (rw (c.primary_of.ensures) at c.adopt_disk-answer.ensures.adopts)

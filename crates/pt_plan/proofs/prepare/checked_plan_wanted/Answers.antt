@@ -6,7 +6,7 @@ use Rattle.pt_apply.specs.Plans.{phases_of}
 use Rattle.pt_layout.specs.Healthy.{VerdictReads}
 use Rattle.pt_check.specs.Answers.{CheckReads}
 use Rattle.pt_plan.specs.Commits.{commit_fault_in}
-use Rattle.pt_plan.specs.inner.Layouts.{PlanOfReads, WriteOfReads}
+use Rattle.pt_plan.specs.Wanted.{PlanOfReads, WriteOfReads}
 use Rattle.pt_plan.proofs.Reading.{commit_failed, commit_wider}
 use Rattle.pt_plan.proofs.Wanting.{ready_of, not_safe_of, failed_of, verdict_of, planned_of, checked_of}
 use Rattle.pt_plan.proofs.prepare.checked_plan_wanted.Goals as goal
@@ -55,7 +55,7 @@ returns-clause-in_range g c =
 
 pub returns-clause-ready : goal.returns-clause-ready
 returns-clause-ready g c = λ tells.
-    ready_of g.row.B (g.D.Disk.count c.args.disk.now) c.args.wanted.now (g.D.Disk.told c.args.disk.now).seen
+    ready_of c.args.primary g.row.B (g.D.Disk.count c.args.disk.now) c.args.wanted.now (g.D.Disk.told c.args.disk.now).seen
     (phases_of c.in_ok-plan.plan) c.requires.size
     (rw (c.in_ok-known.ensures.same.same_count, c.in_ok-known.ensures.same.same tells, c.new-cache.ensures.disk)
     at (c.in_ok-plan.ensures.planned tells))
@@ -67,14 +67,15 @@ returns-in_err-known-clause-place g c = λ tells.
     let p = err_from_is_err_and c.from_residual-in_err-known.result c.from_residual-in_err-known.ensures.1 in
     let d = (g.D.Disk.told c.args.disk.now).seen in
     let n = g.D.Disk.count c.args.disk.now in
-    rw (p.1, p.2) (commit_failed (VerdictReads g.row.B d) (WriteOfReads g.row.B n c.args.wanted.now d) c.in_err-known.field-0.0
-    (λ s reads. planned_of g.row.B n c.args.wanted.now d s (verdict_of g.row.B n c.args.wanted.now d s reads))
+    rw (p.1, p.2) (commit_failed (VerdictReads g.row.B d)
+    (WriteOfReads c.args.primary g.row.B n c.args.wanted.now d) c.in_err-known.field-0.0
+    (λ s reads. planned_of c.args.primary g.row.B n c.args.wanted.now d s (verdict_of c.args.primary g.row.B n c.args.wanted.now d s reads))
     (rw c.new-cache.ensures.disk at (c.in_err-known.ensures.place tells)))
 
 pub returns-in_err-known-clause-refused : goal.returns-in_err-known-clause-refused
 returns-in_err-known-clause-refused g c = λ tells.
     let p = err_from_is_err_and c.from_residual-in_err-known.result c.from_residual-in_err-known.ensures.1 in
-    rw (p.1, p.2) (failed_of g.row.B (g.D.Disk.count c.args.disk.now) c.args.wanted.now (g.D.Disk.told c.args.disk.now).seen
+    rw (p.1, p.2) (failed_of c.args.primary g.row.B (g.D.Disk.count c.args.disk.now) c.args.wanted.now (g.D.Disk.told c.args.disk.now).seen
     c.in_err-known.field-0.0)
 
 pub returns-in_err-plan-clause-same : goal.returns-in_err-plan-clause-same
@@ -97,8 +98,9 @@ returns-in_err-plan-clause-place g c = λ tells.
     let p = err_from_is_err_and c.from_residual-in_err-plan.result c.from_residual-in_err-plan.ensures.1 in
     let d = (g.D.Disk.told c.args.disk.now).seen in
     let n = g.D.Disk.count c.args.disk.now in
-    rw (p.1, p.2) (commit_wider (PlanOfReads g.row.B n c.args.wanted.now d) (WriteOfReads g.row.B n c.args.wanted.now d)
-    c.in_err-plan.field-0.0 (planned_of g.row.B n c.args.wanted.now d)
+    rw (p.1, p.2) (commit_wider (PlanOfReads c.args.primary g.row.B n c.args.wanted.now d)
+    (WriteOfReads c.args.primary g.row.B n c.args.wanted.now d)
+    c.in_err-plan.field-0.0 (planned_of c.args.primary g.row.B n c.args.wanted.now d)
     (rw (c.in_ok-known.ensures.same.same_count, c.in_ok-known.ensures.same.same tells, c.new-cache.ensures.disk)
     at (c.in_err-plan.ensures.place tells)))
 
@@ -130,9 +132,10 @@ returns-in_err-checked-clause-place g c = λ tells.
     let p = err_from_is_err_and c.from_residual-in_err-checked.result c.from_residual-in_err-checked.ensures.1 in
     let d = (g.D.Disk.told c.args.disk.now).seen in
     let n = g.D.Disk.count c.args.disk.now in
-    rw (p.1, p.2) (commit_wider (CheckReads g.row.B d (phases_of c.in_ok-plan.plan)) (WriteOfReads g.row.B n c.args.wanted.now d)
+    rw (p.1, p.2) (commit_wider (CheckReads g.row.B d (phases_of c.in_ok-plan.plan))
+    (WriteOfReads c.args.primary g.row.B n c.args.wanted.now d)
     c.in_err-checked.field-0.0
-    (checked_of g.row.B n c.args.wanted.now d (phases_of c.in_ok-plan.plan)
+    (checked_of c.args.primary g.row.B n c.args.wanted.now d (phases_of c.in_ok-plan.plan)
     (rw (c.in_ok-known.ensures.same.same_count, c.in_ok-known.ensures.same.same tells, c.new-cache.ensures.disk)
     at (c.in_ok-plan.ensures.planned tells)))
     (rw (c.in_ok-plan.ensures.same.same tells, c.in_ok-known.ensures.same.same tells, c.new-cache.ensures.disk)
@@ -141,7 +144,8 @@ returns-in_err-checked-clause-place g c = λ tells.
 pub returns-in_err-checked-clause-refused : goal.returns-in_err-checked-clause-refused
 returns-in_err-checked-clause-refused g c = λ tells.
     let p = err_from_is_err_and c.from_residual-in_err-checked.result c.from_residual-in_err-checked.ensures.1 in
-    rw (p.1, p.2) (not_safe_of g.row.B (g.D.Disk.count c.args.disk.now) c.args.wanted.now (g.D.Disk.told c.args.disk.now).seen
+    rw (p.1, p.2) (not_safe_of c.args.primary g.row.B (g.D.Disk.count c.args.disk.now) c.args.wanted.now
+    (g.D.Disk.told c.args.disk.now).seen
     (phases_of c.in_ok-plan.plan) c.requires.size
     (rw (c.in_ok-known.ensures.same.same_count, c.in_ok-known.ensures.same.same tells, c.new-cache.ensures.disk)
     at (c.in_ok-plan.ensures.planned tells))

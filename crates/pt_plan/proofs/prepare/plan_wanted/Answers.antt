@@ -5,7 +5,7 @@ use Rattle.pt_sector.specs.Overlays.{OnlyReads}
 use Rattle.pt_plan.specs.Commits.{commit_fault_in}
 use Rattle.std.proofs.lemmas.Result.{err_from_is_err_and}
 use Rattle.pt_layout.specs.Healthy.{VerdictReads}
-use Rattle.pt_plan.specs.inner.Layouts.{PlanOfReads}
+use Rattle.pt_plan.specs.Wanted.{PlanOfReads}
 use Rattle.pt_plan.proofs.Reading.{commit_failed}
 use Rattle.pt_plan.proofs.Wanting.{verdict_of, failed_of}
 use Rattle.pt_plan.proofs.prepare.plan_wanted.Goals as goal
@@ -61,11 +61,12 @@ returns-in_err-known-clause-place g c = λ tells.
     let p = err_from_is_err_and c.from_residual-in_err-known.result c.from_residual-in_err-known.ensures.1 in
     let d = (g.D.Disk.told c.args.disk.now).seen in
     let n = g.D.Disk.count c.args.disk.now in
-    rw (p.1, p.2) (commit_failed (VerdictReads g.row.B d) (PlanOfReads g.row.B n c.args.wanted.now d) c.in_err-known.field-0.0
-    (verdict_of g.row.B n c.args.wanted.now d) (rw c.new-cache.ensures.disk at (c.in_err-known.ensures.place tells)))
+    rw (p.1, p.2) (commit_failed (VerdictReads g.row.B d)
+    (PlanOfReads c.args.primary g.row.B n c.args.wanted.now d) c.in_err-known.field-0.0
+    (verdict_of c.args.primary g.row.B n c.args.wanted.now d) (rw c.new-cache.ensures.disk at (c.in_err-known.ensures.place tells)))
 
 pub returns-in_err-known-clause-refused : goal.returns-in_err-known-clause-refused
 returns-in_err-known-clause-refused g c = λ tells.
     let p = err_from_is_err_and c.from_residual-in_err-known.result c.from_residual-in_err-known.ensures.1 in
-    rw (p.1, p.2) (failed_of g.row.B (g.D.Disk.count c.args.disk.now) c.args.wanted.now (g.D.Disk.told c.args.disk.now).seen
+    rw (p.1, p.2) (failed_of c.args.primary g.row.B (g.D.Disk.count c.args.disk.now) c.args.wanted.now (g.D.Disk.told c.args.disk.now).seen
     c.in_err-known.field-0.0)

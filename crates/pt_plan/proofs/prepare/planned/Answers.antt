@@ -1,6 +1,6 @@
 use Rattle.std.proofs.lemmas.Result.{err_from_is_err_and}
 use Rattle.pt_plan.proofs.Starting.{unplanned_fault, unplanned_hides, unplanned_told}
-use Rattle.pt_planner.specs.PlanReads.{PlanReads}
+use Rattle.pt_planner.specs.PlanReads.{PlanReadsBy}
 use Rattle.pt_plan.proofs.Reading.{commit_plan_failed}
 use Rattle.pt_plan.proofs.prepare.planned.Goals as goal
 
@@ -20,7 +20,8 @@ returns-in_err-plan-clause-err g c = λ tells.
     rw (p.1, p.2) (unplanned_told _ _ _ c.in_err-plan.field-0.0 (c.in_err-plan.ensures.err tells))
 
 pub returns-in_err-plan-clause-place : goal.returns-in_err-plan-clause-place
-returns-in_err-plan-clause-place g c =
+returns-in_err-plan-clause-place g c = λ tells.
     let p = err_from_is_err_and c.from_residual.result c.from_residual.ensures.1 in
-    rw (p.1, p.2) (commit_plan_failed (PlanReads g.row.B (g.D.Disk.count c.args.disk.now) c.args.wanted.now) c.in_err-plan.field-0.0
-    c.in_err-plan.ensures.place)
+    rw (p.1, p.2) (commit_plan_failed
+    (PlanReadsBy c.args.primary g.row.B (g.D.Disk.count c.args.disk.now) c.args.wanted.now) c.in_err-plan.field-0.0
+    (c.in_err-plan.ensures.place tells))

@@ -2,7 +2,7 @@ use Rattle.std.proofs.Common.{arith}
 use Rattle.std.proofs.lemmas.Result.{err_from_is_err_and}
 use Rattle.pt_apply.specs.Plans.{phases_of}
 use Rattle.pt_plan.specs.Commits.{commit_fault_in}
-use Rattle.pt_plan.specs.inner.Layouts.{WriteOfReads}
+use Rattle.pt_plan.specs.Wanted.{WriteOfReads}
 use Rattle.pt_plan.proofs.Applying.{settled}
 use Rattle.pt_plan.proofs.Exits.{met_read}
 use Rattle.pt_plan.proofs.Reading.{by_flush, by_call}
@@ -50,7 +50,8 @@ apply-requires g c = (
 pub returns-in_err-flush-clause-place : goal.returns-in_err-flush-clause-place
 returns-in_err-flush-clause-place g c = λ tells.
     let p = err_from_is_err_and c.from_residual.result c.from_residual.ensures.1 in
-    rw (p.1, p.2) (by_flush (WriteOfReads g.row.B (g.D.Disk.count c.args.disk.now) c.args.wanted.now (g.D.Disk.told c.args.disk.now).seen)
+    rw (p.1, p.2) (by_flush (WriteOfReads c.args.primary g.row.B (g.D.Disk.count c.args.disk.now) c.args.wanted.now
+    (g.D.Disk.told c.args.disk.now).seen)
     c.in_err-flush.field-0.0 c.in_err-flush.ensures.fault)
 
 pub returns-in_err-plan-clause-place : goal.returns-in_err-plan-clause-place
@@ -61,5 +62,6 @@ returns-in_err-plan-clause-place g c = λ tells.
 pub returns-in_err-apply-clause-place : goal.returns-in_err-apply-clause-place
 returns-in_err-apply-clause-place g c = λ tells.
     let p = err_from_is_err_and c.from_residual-in_err-apply.result c.from_residual-in_err-apply.ensures.1 in
-    rw (p.1, p.2) (by_call (WriteOfReads g.row.B (g.D.Disk.count c.args.disk.now) c.args.wanted.now (g.D.Disk.told c.args.disk.now).seen)
+    rw (p.1, p.2) (by_call (WriteOfReads c.args.primary g.row.B (g.D.Disk.count c.args.disk.now) c.args.wanted.now
+    (g.D.Disk.told c.args.disk.now).seen)
     (phases_of c.in_ok-plan.plan) c.in_err-apply.field-0.0 c.in_err-apply.ensures.fault)

@@ -5,14 +5,15 @@ use Rattle.pt_replay.proofs.Saying.{says_unmended}
 use Rattle.pt_replay.proofs.planning.plan_repair.Goals as goal
 
 pub returns-in-Ok-clause-ok : goal.returns-in-Ok-clause-ok
-returns-in-Ok-clause-ok g c = rw c.in-Some.ensures.seen at (c.in-Ok.ensures.ready tt)
+returns-in-Ok-clause-ok g c = rw c.in-Some.ensures.seen at (rw c.primary_or-primary.ensures at (c.in-Ok.ensures.ready tt))
 
 pub returns-clause-err : goal.returns-clause-err
 returns-clause-err g c = rw c.unmended.ensures (inr (
   c.in-Some.ensures.is_view,
   says_unmended g.row.B c.args.view.now (disk_of g.row.B c.args.view.now c.args.elsewhere.items) c.in-Err.error
       (rw c.in-Some.ensures.seen at (c.in-Err.ensures.refused tt))
-      (asked_of g.row.B c.args.view.now _ _ _ _ _ _ _ _ c.in-Some.ensures.view c.checked_plan_for_repair.ensures.same.through.1
+      (asked_of g.row.B c.args.view.now _ _ _ _ _ _ _ _ c.in-Some.ensures.view c.checked_plan_for_repair_by.ensures.same.through.1
       c.in-Err.ensures.blames)
-      (rw c.in-Some.ensures.view.count_is at (rw c.in-Some.ensures.seen at (c.in-Err.ensures.place tt))),
+      (rw c.in-Some.ensures.view.count_is at (rw c.in-Some.ensures.seen at
+      (rw c.primary_or-primary.ensures at (c.in-Err.ensures.place tt)))),
 ))

@@ -6,7 +6,8 @@ use Rattle.pt_replay.proofs.Saying.{says_refused}
 use Rattle.pt_replay.proofs.planning.plan_words.Goals as goal
 
 pub returns-in-Ok-clause-ok : goal.returns-in-Ok-clause-ok
-returns-in-Ok-clause-ok g c = rw c.in-Some.ensures.view.count_is at (rw c.in-Some.ensures.seen at (c.in-Ok.ensures.ready tt))
+returns-in-Ok-clause-ok g c =
+    rw c.in-Some.ensures.view.count_is at (rw c.in-Some.ensures.seen at (rw c.primary_or-primary.ensures at (c.in-Ok.ensures.ready tt)))
 
 pub returns-clause-err : goal.returns-clause-err
 returns-clause-err g c =
@@ -14,8 +15,10 @@ returns-clause-err g c =
     rw c.refused.ensures (inr (
       c.in-Some.ensures.is_view,
       says_refused g.row.B c.args.view.now (disk_of g.row.B c.args.view.now c.args.elsewhere.items) batch c.in-Err.error
-          (rw c.in-Some.ensures.view.count_is at (rw c.in-Some.ensures.seen at (c.in-Err.ensures.refused tt)))
-          (asked_of g.row.B c.args.view.now _ _ _ _ _ _ _ _ c.in-Some.ensures.view c.checked_plan_for.ensures.same.through.1
+          (rw c.in-Some.ensures.view.count_is at (rw c.in-Some.ensures.seen at
+          (rw c.primary_or-primary.ensures at (c.in-Err.ensures.refused tt))))
+          (asked_of g.row.B c.args.view.now _ _ _ _ _ _ _ _ c.in-Some.ensures.view c.checked_plan_wanted.ensures.same.through.1
           c.in-Err.ensures.blames)
-          (rw c.in-Some.ensures.view.count_is at (rw c.in-Some.ensures.seen at (c.in-Err.ensures.place tt))),
+          (rw c.in-Some.ensures.view.count_is at (rw c.in-Some.ensures.seen at
+          (rw c.primary_or-primary.ensures at (c.in-Err.ensures.place tt)))),
     ))

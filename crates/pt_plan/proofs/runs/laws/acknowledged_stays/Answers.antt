@@ -1,9 +1,9 @@
-use Rattle.std.specs.Prelude.{◌≡◌, List, [], ◌∷◌, ◌++◌, Ok}
+use Rattle.std.specs.Prelude.{◌≡◌, List, [], ◌∷◌, ◌++◌}
 use Rattle.std.proofs.Common.{◌∙◌, inl, inr, refl, sym, ap, subst, append_assoc}
 use Rattle.pt_sector.specs.Device.{Told}
 use Rattle.pt_recover.specs.Denotes.{Denotes}
 use Rattle.pt_plan.specs.Commits.{past, Either}
-use Rattle.pt_plan.specs.Batches.{Change, ChangedBy, CommitsChange, Repairs}
+use Rattle.pt_plan.specs.Batches.{Change, ChangedBy, CommitsAny, RepairsAny}
 use Rattle.pt_plan.specs.Sessions.{RunOf, Applies, Call, answered, Step, a_commit, calls_in, calls_of_all}
 use Rattle.pt_plan.proofs.PlanCalls.{plan_carries_lem, plan_undone_lem}
 use Rattle.pt_plan.proofs.RunsLemmas.{run_keeps_lem}
@@ -23,7 +23,8 @@ ran_on b n (s ∷ steps) step old mid new (next, did, rest) one = (next, did, ra
 
 pub returns : goal.returns
 returns c = λ b n steps batch result old mid new d o x ran did settled is left.
-    let keeps = run_keeps_lem (Denotes b) (ChangedBy b n) (CommitsChange b n) (λ w r s t q. q.history) (Repairs b n) (λ r s t q. q.history)
+    let keeps = run_keeps_lem (Denotes b) (ChangedBy b n) (CommitsAny b n) (λ w r s t q. q.1.history) (RepairsAny b n)
+    (λ r s t q. q.1.history)
     (Applies b) (plan_carries_lem b n) (plan_undone_lem b) in
     let before = keeps steps old mid d o ran settled is in
     let all = keeps (steps ++ a_commit batch result ∷ []) old new d o (ran_on b n steps (a_commit batch result) old mid new ran

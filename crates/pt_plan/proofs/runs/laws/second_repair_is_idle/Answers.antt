@@ -4,6 +4,6 @@ use Rattle.pt_plan.proofs.runs.laws.second_repair_is_idle.Goals as goal
 
 pub returns : goal.returns
 returns c = λ b n words result old mid new done again. ⊎_elim
-    (λ did. only_flushes_lem mid new did.ends.0 (again.idle did.ends.1))
-    (λ did. only_flushes_lem mid new did.ends.0 (again.idle did.ends.1))
+    (λ did. only_flushes_lem mid new did.1.ends.0 (again.1.idle did.1.ends.1))
+    (λ did. only_flushes_lem mid new did.1.ends.0 (again.1.idle did.1.ends.1))
     done

@@ -1,5 +1,6 @@
 use Rattle.std.proofs.Common.{◌≡◌, ℕ, ◌+◌, [], ◌∷◌, ◌++◌, map, take, subst, rules, arith}
 use Rattle.std.proofs.lemmas.List.{take_all}
+use Rattle.pt_cases.specs.declared.primary.Primary.TheVariants.{Zeroed}
 use Rattle.pt_plan.specs.Batches.{Words, Commits}
 use Rattle.pt_plan.specs.Sessions.{batch_of, CommitsByReads}
 use Rattle.pt_plan.specs.inner.Sessions.{Tried}
@@ -27,28 +28,28 @@ loop-batch-preserved g c =
           (g.D.Disk.faults c.loop-batch.disk) _
           c.loop-batch.invariant.blames c.attempt-reply.ensures.blames);
       session = λ tells. rw (next, c.push_reserved.ensures.items)
-          (session_on (Commits g.row.B (g.D.Disk.count c.args.disk.now))
+          (session_on (Commits Zeroed g.row.B (g.D.Disk.count c.args.disk.now))
           (map batch_of (take c.loop-batch.batch-index c.args.batches.now)) c.loop-batch.replies.items
           (batch_of c.batch-item.result) c.attempt-reply.result c.loop-batch.faulted c.attempt-reply.new.faulted
           (g.D.Disk.told c.args.disk.now) (g.D.Disk.told c.loop-batch.disk) (g.D.Disk.told c.attempt-reply.new.disk)
           (c.loop-batch.invariant.session tells) c.attempt-reply.ensures.replied
-          (subst (λ (words : Words). Tried (Commits g.row.B (g.D.Disk.count c.args.disk.now)) words c.attempt-reply.result
+          (subst (λ (words : Words). Tried (Commits Zeroed g.row.B (g.D.Disk.count c.args.disk.now)) words c.attempt-reply.result
           (g.D.Disk.told c.loop-batch.disk) (g.D.Disk.told c.attempt-reply.new.disk))
           (words_are _ _ _ _ c.as_slice.ensures.value c.as_slice-in-loop-batch.ensures.value)
-          (subst (λ (n : ℕ). Tried (Commits g.row.B n)
+          (subst (λ (n : ℕ). Tried (Commits Zeroed g.row.B n)
           (record { edits = c.as_slice.result.now; guids = c.as_slice-in-loop-batch.result.now }) c.attempt-reply.result
           (g.D.Disk.told c.loop-batch.disk) (g.D.Disk.told c.attempt-reply.new.disk))
           c.loop-batch.invariant.count (c.attempt-reply.ensures.tried tells))));
       place = λ tells. rw (next, c.push_reserved.ensures.items)
-          (session_on (CommitsByReads g.row.B (g.D.Disk.count c.args.disk.now))
+          (session_on (CommitsByReads Zeroed g.row.B (g.D.Disk.count c.args.disk.now))
           (map batch_of (take c.loop-batch.batch-index c.args.batches.now)) c.loop-batch.replies.items
           (batch_of c.batch-item.result) c.attempt-reply.result c.loop-batch.faulted c.attempt-reply.new.faulted
           (g.D.Disk.told c.args.disk.now) (g.D.Disk.told c.loop-batch.disk) (g.D.Disk.told c.attempt-reply.new.disk)
           (c.loop-batch.invariant.place tells) c.attempt-reply.ensures.replied
-          (subst (λ (words : Words). Tried (CommitsByReads g.row.B (g.D.Disk.count c.args.disk.now)) words c.attempt-reply.result
+          (subst (λ (words : Words). Tried (CommitsByReads Zeroed g.row.B (g.D.Disk.count c.args.disk.now)) words c.attempt-reply.result
           (g.D.Disk.told c.loop-batch.disk) (g.D.Disk.told c.attempt-reply.new.disk))
           (words_are _ _ _ _ c.as_slice.ensures.value c.as_slice-in-loop-batch.ensures.value)
-          (subst (λ (n : ℕ). Tried (CommitsByReads g.row.B n)
+          (subst (λ (n : ℕ). Tried (CommitsByReads Zeroed g.row.B n)
           (record { edits = c.as_slice.result.now; guids = c.as_slice-in-loop-batch.result.now }) c.attempt-reply.result
           (g.D.Disk.told c.loop-batch.disk) (g.D.Disk.told c.attempt-reply.new.disk))
           c.loop-batch.invariant.count (c.attempt-reply.ensures.place tells))));

@@ -1,4 +1,5 @@
 use Rattle.std.proofs.Common.{◌≡◌, ◌++◌, ◌≤◌, length, map, take, false, vec_len, vec_capacity}
+use Rattle.pt_cases.specs.declared.primary.Primary.TheVariants.{Zeroed}
 use Rattle.pt_plan.specs.Sessions.{batch_of, SessionOf, SessionByReads, faults_in}
 use Rattle.pt_plan.proofs.RunsLemmas.{Replies}
 use Rattle.pt_plan.proofs.runs.sessions.session.Given as goal
@@ -11,8 +12,9 @@ invariant-loop-batch g l = record {
   len : vec_len l.replies ≡ l.batch-index;
   so_far : Replies false (map batch_of (take l.batch-index l.batches)) l.replies.items l.faulted;
   blames : g.D.Disk.faults l.disk ≡ g.D.Disk.faults l.initial.disk ++ faults_in l.replies.items;
-  session : g.D.Disk.tells → SessionOf g.row.B (g.D.Disk.count l.initial.disk) (map batch_of (take l.batch-index l.batches)) l.replies.items
+  session : g.D.Disk.tells → SessionOf Zeroed g.row.B (g.D.Disk.count l.initial.disk)
+      (map batch_of (take l.batch-index l.batches)) l.replies.items
       (g.D.Disk.told l.initial.disk) (g.D.Disk.told l.disk);
-  place : g.D.Disk.tells → SessionByReads g.row.B (g.D.Disk.count l.initial.disk) (map batch_of (take l.batch-index l.batches))
+  place : g.D.Disk.tells → SessionByReads Zeroed g.row.B (g.D.Disk.count l.initial.disk) (map batch_of (take l.batch-index l.batches))
       l.replies.items (g.D.Disk.told l.initial.disk) (g.D.Disk.told l.disk);
 }

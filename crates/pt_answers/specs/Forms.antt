@@ -1,0 +1,30 @@
+-- Answers in the form that they are asked for in.
+use Rattle.std.specs.Prelude.{◌≡◌, ◌++◌, ℕ, List, codes, Result, Ok, Err, string_bytes}
+use Rattle.pt_members.specs.declared.layout.Layout.{Layout}
+use Rattle.pt_types.specs.Listing.{types_lines}
+use Rattle.pt_tables.specs.Text.{IsText, table_data}
+use Rattle.pt_line.specs.declared.line.Form.{Form}
+use Rattle.pt_line.specs.declared.line.Form.TheVariants.{Json, Lines}
+use Rattle.pt_report.specs.declared.reply.Reply.{Reply}
+use Rattle.pt_report.specs.declared.reply.Reply.TheVariants.{Text}
+use Rattle.pt_report.specs.declared.reply.Reply.TheVariants as reply
+use Rattle.pt_answers.specs.declared.failure.Failure.{Failure}
+use Rattle.pt_answers.specs.declared.failure.Failure.TheVariants.{Memory}
+
+-- the table of a layout as a text of JSON, and a line's end; or lack of memory
+abbrev pub IsJson : ℕ → List ℕ → Layout → Result Reply Failure → Type 0
+IsJson b image o (Ok (Text text)) =
+    (json : List ℕ) × IsText json (table_data image b o) × (string_bytes text ≡ json ++ codes "\n")
+IsJson b image o (Ok other) = ⊥
+IsJson b image o (Err why) = why ≡ Memory
+
+-- an answer on an image in a form: a table may be shown as JSON, and all else is in lines
+abbrev pub InForm : ℕ → List ℕ → Form → Result Reply Failure → Result Reply Failure → Type 0
+InForm b image Json (Ok (reply.Layout o)) answer = IsJson b image o answer
+InForm b image form found answer = answer ≡ found
+
+-- the list of types; or lack of memory
+abbrev pub IsTypes : Result Reply Failure → Type 0
+IsTypes (Ok (Text text)) = string_bytes text ≡ types_lines
+IsTypes (Ok other) = ⊥
+IsTypes (Err why) = why ≡ Memory

@@ -1,0 +1,46 @@
+//! Answers in the form that they are asked for in.
+
+ghost use Rattle.pt_sector.specs.Sectors.{IsSectorSize};
+ghost use Rattle.pt_answers.specs.Forms.{InForm, IsJson, IsTypes};
+
+use crate::failure::Failure;
+use pt_layout::Layout;
+use pt_line::Form;
+use pt_report::Reply;
+use pt_tables::table_text;
+use pt_types::types_text;
+use std::alloc::Global;
+
+// The table of an image with sectors of `B` bytes as JSON.
+fn json<const B: usize>(alloc: Global, image: &str, layout: &Layout) -> Result<Reply, Failure>
+    requires { IsSectorSize B }
+    ensures { IsJson B image.now layout.now result }
+{
+    let mut text = table_text::<B>(alloc, image, layout)?;
+    text.push_str("\n")?;
+    Ok(Reply::Text(text))
+}
+
+/// An answer on an image with sectors of `B` bytes: a table may be shown as JSON, and all else is in lines.
+pub(crate) fn formed<const B: usize>(
+    alloc: Global,
+    image: &str,
+    form: Form,
+    found: Result<Reply, Failure>,
+) -> Result<Reply, Failure>
+    requires { IsSectorSize B }
+    ensures { InForm B image.now form found result }
+{
+    match (form, found) {
+        (Form::Json, Ok(Reply::Layout(layout))) => json::<B>(alloc, image, &layout),
+        (_, found) => found,
+    }
+}
+
+/// The list of partition types.
+pub(crate) fn types(alloc: Global) -> Result<Reply, Failure>
+    ensures { IsTypes result }
+{
+    let text = types_text(alloc)?;
+    Ok(Reply::Text(text))
+}

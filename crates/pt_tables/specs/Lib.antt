@@ -1,0 +1,6 @@
+pub mod Entries
+pub mod Fields
+pub mod Labels
+pub mod Records
+pub mod Text
+pub mod inner

@@ -1,0 +1,14 @@
+//! A table as text: one object of JSON, in the manner of `sfdisk --json`.
+//!
+//! docs/table.md has the names in it and what they stand for.
+#![tactic(auto)]
+
+mod attributes;
+mod entries;
+mod labels;
+mod names;
+mod object;
+mod records;
+mod text;
+
+pub use text::table_text;

@@ -1,0 +1,4 @@
+pub mod Listing
+pub mod Tables
+pub mod Types
+pub mod inner
