@@ -2,12 +2,18 @@
 # The whole gate: every proof from nothing, wrong bodies that the prover must refuse, the tests and the programs; more wrong bodies, over
 # what was proved; and the proved command on real images, beside sgdisk and sfdisk, on damaged tables, on bad input, on hostile images,
 # under power cuts, and with memory refused and calls on the image failing. It ends with the line of `rt ci`.
+#
+# The wrong bodies, and what only compares with other tools, take turns by commit: a third of the bodies, half of the comparisons. TURN=all
+# runs all of them, and TURN=N what the turn N has.
 set -euo pipefail
 cd "$(dirname "$0")"
 export PATH="$PATH:/usr/sbin:/sbin"
 tests/install.sh
 # what an earlier build left
 rm -rf crates/*/out
+turn=${TURN:-$(git rev-list --count HEAD 2>/dev/null || echo 0)}
+turns=(--turn "$turn")
+[ "$turn" != all ] || turns=()
 said=$(mktemp)
 bodies=$(mktemp)
 scripts=$(mktemp)
@@ -20,9 +26,9 @@ archive="$PWD/crates/pt_c/out/libpt_c.a"
 # once what it runs is. These run on all processors once `rt ci` has ended, and the wrong bodies on two, so those go first. Each has a
 # process group of its own, so that nothing of it goes on where `rt ci` fails.
 set -m
-nice -n 10 python3 tests/wrong_bodies.py --beside "$said" >"$bodies" 2>&1 &
+nice -n 10 python3 tests/wrong_bodies.py --beside "$said" "${turns[@]}" >"$bodies" 2>&1 &
 trying=$!
-nice -n 19 python3 tests/side_by_side.py --beside "$said" >"$scripts" 2>&1 <<LIST &
+nice -n 19 python3 tests/side_by_side.py --beside "$said" "${turns[@]}" >"$scripts" 2>&1 <<LIST &
 ../packaging/build.py --over-ci ptab pt_c
 then callers/c_library.py "$ptab" "$archive"
 then callers/disk_library.py "$ptab" "$archive"
@@ -43,18 +49,18 @@ failures/power_cut.py "$ptab"
 failures/malicious.py "$ptab" "$doubles"
 rows/rows_4096.py "$ptab" "$doubles"
 failures/repairs.py "$ptab"
-readers/readers.py "$ptab"
+even readers/readers.py "$ptab"
 rows/reads.py "$ptab"
-peers/against_sfdisk.py "$ptab"
-peers/against_sgdisk.py "$ptab"
-peers/real_images.py "$ptab"
-peers/sfdisk_json.py "$ptab"
-peers/types.py "$ptab"
+even peers/against_sfdisk.py "$ptab"
+even peers/against_sgdisk.py "$ptab"
+odd peers/real_images.py "$ptab"
+odd peers/sfdisk_json.py "$ptab"
+even peers/types.py "$ptab"
 failures/bad_input.py "$ptab"
 docs/docs.py "$ptab"
 docs/recipes.py "$ptab"
-peers/from_sgdisk.py "$ptab"
-peers/other_tools.py "$ptab"
+odd peers/from_sgdisk.py "$ptab"
+odd peers/other_tools.py "$ptab"
 failures/devices.py "$ptab"
 failures/ptab_run.py "$ptab"
 docs/man_page.py "$ptab"

@@ -2,11 +2,12 @@
 """Runs the scripts of this folder side by side, one for each processor, and prints what each said, in their order. Ends with 1 where
 one of them fails, and says which.
 
-usage: tests/side_by_side.py [--beside FILE] <LIST
+usage: tests/side_by_side.py [--beside FILE] [--turn N] <LIST
   LIST            one script a line, with its words. A line that begins with `then` waits for the last line above it that doesn't, and
-                  isn't run where that one fails
+                  isn't run where that one fails. One that begins with `even` or `odd` is for the turns whose number is so
   --beside FILE   while `rt ci` runs, which prints into this file: each script, once the crates are proved that its words name, as pt_c or
                   as the file of a built one
+  --turn N        which turn it is; without it all scripts are run
 """
 import os
 import re
@@ -34,6 +35,12 @@ def run(words):
         status = subprocess.run(command, check=False, **how).returncode
         said.seek(0)
         return status, said.read()
+
+
+def in_turn(lines, turn):
+    """The lines of this turn."""
+    other = {None: (), "0": ("odd",), "1": ("even",)}[turn and str(int(turn) % 2)]
+    return [words[1:] if words[0] in ("even", "odd") else words for words in lines if words[0] not in other]
 
 
 def groups_of(lines):
@@ -78,8 +85,8 @@ def start_all(pool, groups, said):
 
 
 def main(words):
-    said = words[words.index("--beside") + 1] if "--beside" in words else None
-    groups = groups_of(shlex.split(line) for line in sys.stdin if line.strip())
+    said, turn = (words[words.index(it) + 1] if it in words else None for it in ("--beside", "--turn"))
+    groups = groups_of(in_turn([shlex.split(line) for line in sys.stdin if line.strip()], turn))
     if not groups:
         sys.exit("side_by_side.py: no script")
     failed = []

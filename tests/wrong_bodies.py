@@ -2,11 +2,12 @@
 """Tries the wrong bodies of crates/NAME/wrong_bodies.txt: the prover must refuse each at the clause that its author named.
 docs/wrong_bodies.md says what a wrong body is here, and how to add one.
 
-usage: tests/wrong_bodies.py [-v] [--keep DIR] [--beside FILE] [NAME[/BODY]..]     crates, or none for all
+usage: tests/wrong_bodies.py [-v] [--keep DIR] [--beside FILE] [--turn N] [NAME[/BODY]..]     crates, or none for all
   -v              says at which clauses each body is refused, and all goals that it leaves open
   --keep DIR      keeps the prover's work on each crate there, for the next run
   --beside FILE   while `rt ci` runs, which prints into this file: each crate's, once it has proved what stands below that crate. Without
                   it packaging/build.py proves that first, where it isn't proved yet
+  --turn N        each crate's bodies in turns: a third of them, others with N + 1 and N + 2
 
 A wrong body is put into a copy of the crate as a second function beside the right one, with the same signature and contract and no proof by
 hand. For each function that has wrong bodies one more is put there, which only calls the right one: it must be proved. All of a crate are
@@ -34,6 +35,8 @@ from functions import second  # noqa: E402
 # The most memory that one check takes, in bytes, and how many run beside `rt ci`, which uses most of it.
 MEMORY = 4_000_000_000
 LANES_BESIDE = 2
+# After how many turns each body has been tried.
+TURNS = 3
 rt = kit.load(ROOT)
 
 
@@ -172,6 +175,8 @@ def try_crate(crate, asked):
         time.sleep(SECONDS)
     wanted = {it.partition("/")[2] for it in asked.names if it.startswith(f"{crate.name}/")}
     bodies = [it for it in bodies_of(crate) if (it.name in wanted if wanted else not (asked.beside and it.by_hand))]
+    if asked.turn is not None:
+        bodies = bodies[asked.turn % TURNS::TURNS]
     with contextlib.ExitStack() as ends:
         kept = f"{os.path.abspath(asked.keep)}/{crate.name}" if asked.keep else ends.enter_context(tempfile.TemporaryDirectory())
         os.makedirs(kept, exist_ok=True)
@@ -183,10 +188,11 @@ def try_crate(crate, asked):
 
 
 def main():
-    reader = argparse.ArgumentParser(usage="tests/wrong_bodies.py [-v] [--keep DIR] [--beside FILE] [NAME[/BODY]..]")
+    reader = argparse.ArgumentParser(usage="tests/wrong_bodies.py [-v] [--keep DIR] [--beside FILE] [--turn N] [NAME[/BODY]..]")
     reader.add_argument("-v", action="store_true")
     reader.add_argument("--keep")
     reader.add_argument("--beside")
+    reader.add_argument("--turn", type=int)
     reader.add_argument("names", nargs="*")
     asked = reader.parse_args()
     having = {it.name: it for it in rt.rtlib.crates_below(ROOT) if os.path.isfile(table_of(it))}

@@ -179,8 +179,8 @@ def run_again(words, folder):
     again then, twice at the most."""
     for _ in range(2):
         with contextlib.suppress(subprocess.TimeoutExpired):
-            return subprocess.run(words, cwd=folder, stdin=subprocess.DEVNULL, capture_output=True, text=True, timeout=60)
-    return subprocess.run(words, cwd=folder, stdin=subprocess.DEVNULL, capture_output=True, text=True, timeout=60)
+            return subprocess.run(words, cwd=folder, stdin=subprocess.DEVNULL, capture_output=True, text=True, timeout=300)
+    return subprocess.run(words, cwd=folder, stdin=subprocess.DEVNULL, capture_output=True, text=True, timeout=300)
 
 
 def completed(words, line, folder):

@@ -232,7 +232,7 @@ def scripts():
     for text, path in listed:
         if usages.get(path) != text:
             sys.exit(f"tests/README.md has {text}, and the script says {usages.get(path)}")
-        if (path in left_out) == bool(re.search(rf"^(?:then )?{path}\b", gate, re.MULTILINE)):
+        if (path in left_out) == bool(re.search(rf"^(?:then |even |odd )?{path}\b", gate, re.MULTILINE)):
             sys.exit(f"test.sh runs tests/{path} against tests/README.md, or doesn't run it")
     if set(usages) - {path for _, path in listed}:
         sys.exit(f"tests/README.md doesn't list {sorted(set(usages) - {path for _, path in listed})}")

@@ -44,7 +44,7 @@ def goes_after(words, loop, sync, trace, where):
     child = subprocess.Popen(["strace", "-f", "-o", trace, "-P", loop.path, "-e", f"trace={calls}", "-e",
                               f"inject={calls}:signal=SIGSTOP:when={sync}", *words],
                              stdin=subprocess.DEVNULL, stdout=subprocess.PIPE, stderr=subprocess.PIPE, text=True, env=where)
-    went, last = 0, time.monotonic() + 120
+    went, last = 0, time.monotonic() + 300
     while child.poll() is None and time.monotonic() < last:
         time.sleep(0.005)
         told = content(trace).decode() if os.path.exists(trace) else ""
@@ -53,7 +53,7 @@ def goes_after(words, loop, sync, trace, where):
                 take_away(loop.path, loop.image)
             went += 1
             os.kill(int(process), signal.SIGCONT)
-    out, errors = child.communicate(timeout=5)
+    out, errors = child.communicate(timeout=300)
     return went > 0, (out, errors, child.returncode)
 
 

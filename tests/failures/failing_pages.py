@@ -85,7 +85,7 @@ def stopped_in(it, words, place):
     child = subprocess.Popen(["strace", "-f", "-qq", "-o", log, "-P", place.path, "-e", "trace=pwrite64", "-e",
                               "inject=pwrite64:signal=SIGSTOP:when=1", *words],
                              stdin=subprocess.DEVNULL, stdout=subprocess.DEVNULL, stderr=subprocess.DEVNULL, env=it.where)
-    last, seen = time.monotonic() + 120, 0
+    last, seen = time.monotonic() + drives.SECONDS, 0
     while child.poll() is None and time.monotonic() < last:
         found = re.findall(r"^(\d+) +--- stopped by SIGSTOP ---$", content(log).decode() if os.path.exists(log) else "", re.MULTILINE)
         for process in found[seen:]:
@@ -95,7 +95,7 @@ def stopped_in(it, words, place):
             os.kill(int(process), signal.SIGCONT)
         time.sleep(0.005)
     same(f"{words}: a write at which it stops", seen > 0, True)
-    return child.wait(5)
+    return child.wait(drives.SECONDS)
 
 
 def kept(table):

@@ -133,7 +133,7 @@ def at_any_moment(it):
         time.sleep(rng.uniform(0, 0.3))
         if child.poll() is None:
             os.killpg(child.pid, number)
-        lines = child.communicate(timeout=30)[1].splitlines()
+        lines = child.communicate(timeout=300)[1].splitlines()
         fate = UNTOUCHED if it.names() == ["old"] else WRITTEN
         answers = [(128 + number, f"ptab-run: ended by {number.name}: {it.path} {fate}"), (0, "ptab-run: done")]
         # the script may not have begun, and ptab or the tool may have ended by it first

@@ -118,7 +118,7 @@ def faults(it):
     while not os.path.exists(f"{it.folder}/at"):
         time.sleep(0.05)
     child.send_signal(signal.SIGTERM)
-    it.same("a run that is ended", (child.wait(30), os.listdir(f"{it.folder}/left"), it.image() == before), (143, [], True))
+    it.same("a run that is ended", (child.wait(300), os.listdir(f"{it.folder}/left"), it.image() == before), (143, [], True))
 
 
 def killed(it):

@@ -17,6 +17,8 @@ SIZE = 512
 # of ext4's, and the request of ioctl(2) that tells where a file's block stands on the device
 BLOCK, FIND_BLOCK = 4096, 1
 FILE_SYSTEM_BYTES = 16 << 20
+# how long a process may take to come and to go, where all processors are busy
+SECONDS = 300
 WHAT_IS_WANTED = "root, loop devices, FUSE, and libfuse3's headers"
 
 
@@ -52,7 +54,7 @@ class Drive:
     def starts(self):
         """Whether it is there, which it isn't where nothing may be mounted."""
         self.process = subprocess.Popen([self.program, self.medium, self.folder, "-f", "-s"], stderr=subprocess.DEVNULL)
-        last = time.monotonic() + 20
+        last = time.monotonic() + SECONDS
         while not os.path.exists(self.path) and self.process.poll() is None and time.monotonic() < last:
             time.sleep(0.01)
         return os.path.exists(self.path)
@@ -65,7 +67,7 @@ class Drive:
     def __exit__(self, *_):
         if os.path.ismount(self.folder):
             unmount(self.folder)
-        self.process.wait(20)
+        self.process.wait(SECONDS)
 
     def tell(self, line):
         with open(self.control, "w", encoding="ascii") as it:
