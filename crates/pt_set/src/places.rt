@@ -1,0 +1,166 @@
+//! Where the partitions of a draft lie.
+
+ghost use Rattle.std.specs.Prelude.{◌≡◌, ◌<◌, ◌^◌, ◌++◌, IfOk, IfErr, IfSome, OnOk, Ok, Err, length};
+ghost use Rattle.pt_sector.specs.Sectors.{IsSectorSize};
+ghost use Rattle.pt_set.specs.Places.{IsFound, IsPlace, area_of, as_list, end_by as end_spec, end_of as end_of_spec};
+ghost use Rattle.pt_set.specs.Places.{last_of as last_spec, run_by as run_by_spec, stated as stated_spec, stated_by as stated_by_spec};
+ghost use Rattle.pt_set.specs.inner.Made.{Tells};
+
+use crate::faults::at;
+use crate::head::Head;
+use pt_drafts::{DraftError, Extent, Key, PartDraft, TextFault};
+use pt_edit::End;
+use pt_edit::space::{Lead, Run, Space, place};
+use std::alloc::{AllocError, Global};
+
+/// Where a partition starts that the text gives no start, in bytes: at a multiple of 1 MiB.
+const ALIGNMENT: usize = 1 << 20;
+
+// The last of so many sectors.
+fn last_of(first: u64, count: u64) -> Option<u64>
+    ensures { result ≡ last_spec first count }
+{
+    if count == 0 {
+        return None;
+    }
+    first.checked_add(count - 1)
+}
+
+// The last sector of a partition.
+fn end_by<const B: usize>(first: u64, extent: Extent) -> Option<u64>
+    requires size { IsSectorSize B }
+    ensures { result ≡ end_spec B first extent }
+{
+    match extent {
+        Extent::Sectors(count) => last_of(first, count),
+        Extent::Bytes(count) => last_of(first, count / B as u64),
+        Extent::Last(last) => Some(last),
+    }
+}
+
+// The sectors from one on.
+fn run_by<const B: usize>(first: u64, extent: Extent) -> Option<Run>
+    requires size { IsSectorSize B }
+    ensures value { result ≡ run_by_spec B first extent }
+    ensures last { IfSome result (λ run. run.last < 2 ^ 64) }
+    ensures first { IfSome result (λ run. run.first < 2 ^ 64) }
+{
+    let last = end_by::<B>(first, extent)?;
+    Some(Run {
+        first: u128::from(first),
+        last: u128::from(last),
+    })
+}
+
+// A partition of which the text says both ends.
+fn stated_by<const B: usize>(part: &PartDraft) -> Option<Run>
+    requires size { IsSectorSize B }
+    ensures value { result ≡ stated_by_spec B part.now.start part.now.extent }
+    ensures last { IfSome result (λ run. run.last < 2 ^ 64) }
+    ensures first { IfSome result (λ run. run.first < 2 ^ 64) }
+{
+    match (part.start, part.extent) {
+        (Some(first), Some(extent)) => run_by::<B>(first, extent),
+        _ => None,
+    }
+}
+
+// Adds the sectors of such a partition.
+fn push_stated<const B: usize>(runs: &mut Vec<Run>, part: &PartDraft) -> Result<(), AllocError>
+    requires size { IsSectorSize B }
+    ensures { OnOk result (runs.new.items ≡ runs.old.items ++ as_list (stated_by_spec B part.now.start part.now.extent)) }
+{
+    if let Some(run) = stated_by::<B>(part) {
+        runs.push(run)?;
+    }
+    Ok(())
+}
+
+/// The sectors of all of them.
+pub(crate) fn stated<const B: usize>(
+    alloc: Global,
+    parts: &[PartDraft],
+) -> Result<Vec<Run>, AllocError>
+    requires size { IsSectorSize B }
+    ensures { IfOk result (λ v. v.items ≡ stated_spec B parts.now) }
+{
+    let mut runs = Vec::new(alloc);
+    for k in 0..parts.len() {
+        push_stated::<B>(&mut runs, &parts[k])?;
+    }
+    Ok(runs)
+}
+
+// As the word `n` is asked for an end.
+fn end_of<const B: usize>(extent: Option<Extent>) -> End
+    requires size { IsSectorSize B }
+    ensures { result ≡ end_of_spec B extent }
+{
+    match extent {
+        None => End::Block,
+        Some(Extent::Sectors(count)) => End::Length(count),
+        Some(Extent::Bytes(count)) => End::Length(count / B as u64),
+        Some(Extent::Last(last)) => End::At(last),
+    }
+}
+
+// The place as the word `n` finds it.
+fn found(
+    alloc: Global,
+    head: &Head,
+    runs: &[Run],
+    alignment: u64,
+    start: u64,
+    end: End,
+    fault: TextFault,
+) -> Result<Run, DraftError>
+    ensures ok { IfOk result (λ run. IsFound (area_of head.now runs.now) alignment start end fault (Ok run)) }
+    ensures last { IfOk result (λ run. run.last < 2 ^ 64) }
+    ensures first { IfOk result (λ run. run.first < 2 ^ 64) }
+    ensures err { IfErr result (Tells (λ e. IsFound (area_of head.now runs.now) alignment start end fault (Err e))) }
+{
+    let space = Space {
+        low: u128::from(head.first),
+        high: u128::from(head.last),
+        taken: Vec::from_slice(alloc, runs)?,
+        lead: Lead::None,
+    };
+    match place(space, alignment, start, end) {
+        Ok(run) => Ok(run),
+        Err(_) => Err(DraftError::Fault(fault)),
+    }
+}
+
+/// Where a partition of a draft lies, which has this place in the list.
+pub(crate) fn place_for<const B: usize>(
+    alloc: Global,
+    head: &Head,
+    runs: &[Run],
+    k: usize,
+    part: &PartDraft,
+) -> Result<Run, DraftError>
+    requires size { IsSectorSize B }
+    requires few { k < 2 ^ 63 }
+    ensures ok { IfOk result (λ run. IsPlace B head.now runs.now k part.now.start part.now.extent (Ok run)) }
+    ensures last { IfOk result (λ run. run.last < 2 ^ 64) }
+    ensures first { IfOk result (λ run. run.first < 2 ^ 64) }
+    ensures err { IfErr result (Tells (λ e. IsPlace B head.now runs.now k part.now.start part.now.extent (Err e))) }
+{
+    match (part.start, part.extent) {
+        (Some(_), Some(_)) => Ok(stated_by::<B>(part).ok_or(at(k, Key::Size))?),
+        (Some(0), None) => Err(DraftError::Fault(at(k, Key::Start))),
+        (Some(start), None) => { found(alloc, head, runs, 1, start, End::Block, at(k, Key::Start)) }
+        (None, extent) => {
+            let alignment = (ALIGNMENT / B) as u64;
+            found(
+                alloc,
+                head,
+                runs,
+                alignment,
+                0,
+                end_of::<B>(extent),
+                at(k, Key::Size),
+            )
+        }
+    }
+}
