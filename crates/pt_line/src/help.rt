@@ -424,18 +424,19 @@ table or the new one is there, 6 no memory. After 2, 3, 6 nothing was written.",
     "
 
 Unreadable, status 2:"
-    bad_fresh
-    "
-  table: too long         TABLE has more than 8 MiB
-  table: not text         TABLE isn't UTF-8
-
-Of TABLE, status 5:
-  table: device           TABLE can't be opened or read"
-    refused
+    bad_fresh refused
     "
   refused: table KEY      the text has a fault at KEY
-  refused: table KEY N    object N of `partitions`, from 1 on, has a fault at KEY
+  refused: table KEY N    object N of `partitions`, counted from 1, has a fault
+                          at KEY
   refused: table uuid N   no fresh GUID is left for object N, or its `uuid` has
                           a fault"
-    plans locked in_use devices
+    plans locked in_use
+    "
+
+Of TABLE, status 2 and 5:
+  table: too long         TABLE has more than 8 MiB
+  table: not text         TABLE isn't UTF-8
+  table: device           TABLE can't be opened or read"
+    devices
 );
