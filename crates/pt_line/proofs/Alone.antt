@@ -13,7 +13,7 @@ use Rattle.pt_line.specs.inner.CommandLine.{alone, name_of}
 use Rattle.pt_line.specs.CommandLine.{ptab}
 use Rattle.pt_line.specs.inner.Lines.{Begins, IsCommand, ReadsAs}
 use Rattle.pt_line.specs.declared.pages.Subcommand.{Subcommand}
-use Rattle.pt_line.specs.declared.pages.Subcommand.TheVariants.{Show, Verify, Locate, Free, Types, Edit, Plan, Check, Apply, Repair, Adopt}
+use Rattle.pt_line.specs.declared.pages.Subcommand.TheVariants.{Show, Verify, Locate, Free, Types, Edit, Plan, Check, Apply, Repair, Adopt, Set}
 
 -- a walk that stopped at this name, with the words that it passed since
 abbrev stopped_at : Text → List Text → Walk
@@ -72,6 +72,7 @@ module _ (sizes : Bor (List (Bor Text))) where
   whole_meets Apply = refl
   whole_meets Repair = refl
   whole_meets Adopt = refl
+  whole_meets Set = refl
 
   whole_passes : (s : Subcommand) → turn_fault (built (ptab sizes)).top (names_of (built (ptab sizes))) (walk_from nothing_held)
       (name_of s) ≡ []
@@ -86,6 +87,7 @@ module _ (sizes : Bor (List (Bor Text))) where
   whole_passes Apply = refl
   whole_passes Repair = refl
   whole_passes Adopt = refl
+  whole_passes Set = refl
 
   alone_meets : (s : Subcommand) → walked (built (alone sizes s)).top.rules (names_of (built (alone sizes s))) (walk_from nothing_held)
       (name_of s)
@@ -102,6 +104,7 @@ module _ (sizes : Bor (List (Bor Text))) where
   alone_meets Apply = refl
   alone_meets Repair = refl
   alone_meets Adopt = refl
+  alone_meets Set = refl
 
   alone_passes : (s : Subcommand) → turn_fault (built (alone sizes s)).top (names_of (built (alone sizes s))) (walk_from nothing_held)
       (name_of s) ≡ []
@@ -116,6 +119,7 @@ module _ (sizes : Bor (List (Bor Text))) where
   alone_passes Apply = refl
   alone_passes Repair = refl
   alone_passes Adopt = refl
+  alone_passes Set = refl
 
   module _ (rest : List Text) where
     -- what is left is that subcommand's
@@ -132,6 +136,7 @@ module _ (sizes : Bor (List (Bor Text))) where
     same_fault Apply = refl
     same_fault Repair = refl
     same_fault Adopt = refl
+    same_fault Set = refl
 
     same_entered : (s : Subcommand) → entered (built (ptab sizes)) (Some (name_of s, rest)) ≡ entered (built (alone sizes s)) (Some
         (name_of s, rest))
@@ -146,6 +151,7 @@ module _ (sizes : Bor (List (Bor Text))) where
     same_entered Apply = refl
     same_entered Repair = refl
     same_entered Adopt = refl
+    same_entered Set = refl
 
     faults_alone : (s : Subcommand)
         → fault_of (alone sizes s) (codes "ptab" ∷ name_of s ∷ rest) ≡ fault_of (ptab sizes) (codes "ptab" ∷ name_of s ∷ rest)
@@ -171,6 +177,7 @@ alone_is_free sizes Check = refl
 alone_is_free sizes Apply = refl
 alone_is_free sizes Repair = refl
 alone_is_free sizes Adopt = refl
+alone_is_free sizes Set = refl
 
 alone_is_simple : (sizes : Bor (List (Bor Text))) (s : Subcommand) → is_simple (alone sizes s) ≡ true
 alone_is_simple sizes Show = refl
@@ -184,6 +191,7 @@ alone_is_simple sizes Check = refl
 alone_is_simple sizes Apply = refl
 alone_is_simple sizes Repair = refl
 alone_is_simple sizes Adopt = refl
+alone_is_simple sizes Set = refl
 
 -- where the words begin with the name
 pub reads_alone : (sizes : Bor (List (Bor Text))) (s : Subcommand) (words : List Text) → Begins (name_of s) words → (c : Command)

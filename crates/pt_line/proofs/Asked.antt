@@ -21,10 +21,10 @@ use Rattle.pt_line.specs.declared.line.Line.{Line}
 use Rattle.pt_line.specs.declared.line.LineError.{LineError}
 use Rattle.pt_line.specs.declared.line.LineError.TheVariants.{NotText, Usage, InUseAlone, Memory}
 use Rattle.pt_line.proofs.ByCommand.{adopt_job, apply_job, check_job, edit_job, free_job, locate_job, plan_job, repair_job, show_job, sized}
-use Rattle.pt_line.proofs.ByCommand.{types_job, verify_job}
+use Rattle.pt_line.proofs.ByCommand.{set_job, types_job, verify_job}
 use Rattle.pt_line.proofs.Rows.{Each}
-use Rattle.pt_line.proofs.Sound.{MayBe, image_sound, mend_writing_sound, other_writing_sound, place_sound, plan_sound, plan_writing_sound}
-use Rattle.pt_line.proofs.Sound.{show_sound, types_sound, word_sound, word_writing_sound}
+use Rattle.pt_line.proofs.Sound.{MayBe, free_sound, image_sound, mend_writing_sound, other_writing_sound, place_sound, plan_sound, plan_writing_sound}
+use Rattle.pt_line.proofs.Sound.{show_sound, table_writing_sound, types_sound, word_sound, word_writing_sound}
 use Rattle.pt_line.proofs.Taken.{HasEntered, IsFair, IsKnown, taken}
 
 -- the texts of the sizes, wherever they lie
@@ -87,7 +87,7 @@ module _ (sizes : Bor (List (Bor Text))) (are : texts sizes.now ≡ codes "512" 
               );
               known = λ u. u.3 refl;
             },
-            image_sound sizes are,
+            free_sound sizes are,
             refl,
           ),
           (
@@ -174,7 +174,20 @@ module _ (sizes : Bor (List (Bor Text))) (are : texts sizes.now ≡ codes "512" 
                           other_writing_sound sizes are,
                           refl,
                         ),
-                        (inl refl, tt),
+                        (
+                          inr (
+                            record {
+                              reads = λ rows fair line j z. (
+                                set_job sizes rows fair line.job j,
+                                sized rows fair.full line.size z,
+                              );
+                              known = λ u. u.11 refl;
+                            },
+                            table_writing_sound sizes are,
+                            refl,
+                          ),
+                          (inl refl, tt),
+                        ),
                       ),
                     ),
                   ),

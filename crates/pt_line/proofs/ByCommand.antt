@@ -5,7 +5,8 @@ use Rattle.std.specs.Borrow.{Bor}
 use Rattle.std.specs.Str.{bytes_eq}
 use Rattle.clap.specs.Takes.{is_given}
 use Rattle.clap.specs.Walk.{Row, Text, all_of, first_of}
-use Rattle.pt_line.specs.CommandLine.{image_rules, mend_rules, other_rules, place_rules, plan_rules, show_rules, word_rules, writing}
+use Rattle.pt_line.specs.CommandLine.{free_rules, image_rules, mend_rules, other_rules, place_rules, plan_rules, show_rules}
+use Rattle.pt_line.specs.CommandLine.{table_rules, word_rules, writing}
 use Rattle.pt_line.specs.Lines.{IsJob, IsSize}
 use Rattle.pt_line.specs.inner.Lines.{IsJobOrEmpty, IsSizeOrLess}
 use Rattle.pt_line.specs.declared.line.Job.{Job}
@@ -77,10 +78,10 @@ module _ (sizes : Bor (List (Bor Text))) (rows : List Row) where
   locate_job fair job.Types h = absurd (true≢false (ap (bytes_eq (codes "locate")) h))
   locate_job fair _ h = absurd (true≢false (ap (bytes_eq (codes "locate")) h.0))
 
-  pub free_job : IsFair MayBe (built_rules (image_rules sizes)) rows → (j : Job) → IsJobOrEmpty (codes "free") rows j
+  pub free_job : IsFair MayBe (built_rules (free_rules sizes)) rows → (j : Job) → IsJobOrEmpty (codes "free") rows j
       → IsJob (codes "free") rows j
   free_job fair (job.Help t) h = absurd h
-  free_job fair (job.Free image) h = (h.0, text_given rows fair.full (codes "IMAGE") _ (fair.given.0 refl) h.1)
+  free_job fair (job.Free image form) h = (h.0, text_given rows fair.full (codes "IMAGE") _ (fair.given.0 refl) h.1, h.2)
   free_job fair job.Types h = absurd (true≢false (ap (bytes_eq (codes "free")) h))
   free_job fair _ h = absurd (true≢false (ap (bytes_eq (codes "free")) h.0))
 
@@ -153,3 +154,18 @@ module _ (sizes : Bor (List (Bor Text))) (rows : List Row) where
   )
   adopt_job fair job.Types h = absurd (true≢false (ap (bytes_eq (codes "adopt")) h))
   adopt_job fair _ h = absurd (true≢false (ap (bytes_eq (codes "adopt")) h.0))
+
+  pub set_job : IsFair MayBe (built_rules (writing (table_rules sizes))) rows → (j : Job) → IsJobOrEmpty (codes "set") rows j
+      → IsJob (codes "set") rows j
+  set_job fair (job.Help t) h = absurd h
+  set_job fair (job.Set image table fresh adoption primary locked_by) h = (
+    h.0,
+    text_given rows fair.full (codes "IMAGE") _ (fair.given.0 refl) h.1,
+    text_given rows fair.full (codes "TABLE") _ (fair.given.1.0 refl) h.2,
+    h.3,
+    h.4,
+    h.5,
+    h.6,
+  )
+  set_job fair job.Types h = absurd (true≢false (ap (bytes_eq (codes "set")) h))
+  set_job fair _ h = absurd (true≢false (ap (bytes_eq (codes "set")) h.0))

@@ -8,8 +8,9 @@ use Rattle.std.proofs.lemmas.Slice.Eq.{bytes_eq-Decides}
 use Rattle.clap.specs.Simple.{filled, filled_from, help_rule}
 use Rattle.clap.specs.Walk.{Rule, Text, texts}
 use Rattle.clap.proofs.WalkLemmas.{list_any-map}
-use Rattle.pt_line.specs.CommandLine.{by_table, device, image_rules, in_use, json, keep_primary, mend_rules, no_lock, other_device}
-use Rattle.pt_line.specs.CommandLine.{other_rules, place_rules, plan_only, plan_rules, sector_size, show_rules, word_rules, writing}
+use Rattle.pt_line.specs.CommandLine.{by_table, device, free_rules, image_rules, in_use, json, keep_primary, mend_rules, no_lock}
+use Rattle.pt_line.specs.CommandLine.{other_device, other_rules, place_rules, plan_only, plan_rules, sector_size, show_rules}
+use Rattle.pt_line.specs.CommandLine.{table_rules, word_rules, writing}
 use Rattle.pt_line.proofs.Rows.{Each, IsSound}
 
 -- the sector's size is one of two texts
@@ -63,6 +64,12 @@ module _ (sizes : Bor (List (Bor Text))) (are : texts sizes.now ≡ codes "512" 
 
   pub image_sound : Each (IsSound MayBe) (built_rules (image_rules sizes))
   image_sound = (((omega arith, λ v e is. absurd (true≢false (sym is))), tt), (device_sound, (sizes_sound, ((tt, tt), tt))))
+
+  pub free_sound : Each (IsSound MayBe) (built_rules (free_rules sizes))
+  free_sound = (
+    ((omega arith, λ v e is. absurd (true≢false (sym is))), tt),
+    (json_sound, (device_sound, (sizes_sound, ((tt, tt), tt)))),
+  )
 
   pub types_sound : Each (IsSound MayBe) (built_rules [])
   types_sound = ((tt, tt), tt)
@@ -189,6 +196,37 @@ module _ (sizes : Bor (List (Bor Text))) (are : texts sizes.now ≡ codes "512" 
           by_table_sound,
           (
             other_device_sound,
+            (
+              device_sound,
+              (
+                sizes_sound,
+                (in_use_sound, (no_lock_sound, ((tt, tt), tt))),
+              ),
+            ),
+          ),
+        ),
+      ),
+    ),
+  )
+
+  pub table_writing_sound : Each (IsSound MayBe) (built_rules (writing (table_rules sizes)))
+  table_writing_sound = (
+    ((omega arith, λ v e is. absurd (true≢false (sym is))), tt),
+    (
+      (
+        (
+          omega arith,
+          λ v e is. absurd (true≢false (sym
+              is)),
+        ),
+        tt,
+      ),
+      (
+        plan_only_sound,
+        (
+          ((omega arith, λ v e is. absurd (true≢false (sym is))), tt),
+          (
+            by_table_sound,
             (
               device_sound,
               (

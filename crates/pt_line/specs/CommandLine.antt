@@ -85,10 +85,13 @@ edit_words = record (new_rule (codes "WORD")) {
 abbrev pub on_disk : Bor (List (Bor Text)) → List Rule
 on_disk sizes = device ∷ sector_size sizes ∷ []
 
--- the arguments of a command on an image alone; on one that may be shown after a plan, by one copy, or as JSON; on a place in it; on
--- words; and on a plan's file
+-- the arguments of a command on an image alone; on one of which something may be printed as JSON; on one that may also be shown after a
+-- plan or by one copy; on a place in it; on words; and on a plan's file
 abbrev pub image_rules : Bor (List (Bor Text)) → List Rule
 image_rules sizes = needed (codes "IMAGE") ∷ on_disk sizes
+
+abbrev pub free_rules : Bor (List (Bor Text)) → List Rule
+free_rules sizes = needed (codes "IMAGE") ∷ json ∷ on_disk sizes
 
 abbrev pub show_rules : Bor (List (Bor Text)) → List Rule
 show_rules sizes = needed (codes "IMAGE") ∷ after ∷ copy ∷ json ∷ on_disk sizes
@@ -110,6 +113,10 @@ mend_rules sizes = needed (codes "IMAGE") ∷ keep_primary ∷ on_disk sizes
 abbrev pub other_rules : Bor (List (Bor Text)) → List Rule
 other_rules sizes = needed (codes "IMAGE") ∷ needed (codes "OTHER") ∷ plan_only ∷ by_table ∷ other_device ∷ on_disk sizes
 
+-- on a table's text besides, with its plan alone or not
+abbrev pub table_rules : Bor (List (Bor Text)) → List Rule
+table_rules sizes = needed (codes "IMAGE") ∷ needed (codes "TABLE") ∷ plan_only ∷ fresh ∷ by_table ∷ on_disk sizes
+
 -- the same of a command that writes the image
 abbrev pub writing : List Rule → List Rule
 writing rules = rules ++ in_use ∷ no_lock ∷ []
@@ -128,7 +135,7 @@ ptab sizes = record {
   subs = subcommand (codes "show") (show_rules sizes)
       ∷ subcommand (codes "verify") (image_rules sizes)
       ∷ subcommand (codes "locate") (place_rules sizes)
-      ∷ subcommand (codes "free") (image_rules sizes)
+      ∷ subcommand (codes "free") (free_rules sizes)
       ∷ subcommand (codes "types") []
       ∷ subcommand (codes "edit") (writing (word_rules sizes))
       ∷ subcommand (codes "plan") (word_rules sizes)
@@ -136,5 +143,6 @@ ptab sizes = record {
       ∷ subcommand (codes "apply") (writing (plan_rules sizes))
       ∷ subcommand (codes "repair") (writing (mend_rules sizes))
       ∷ subcommand (codes "adopt") (writing (other_rules sizes))
+      ∷ subcommand (codes "set") (writing (table_rules sizes))
       ∷ [];
 }

@@ -42,7 +42,7 @@ abbrev pub IsAdoption : List Row → Adoption → Type 0
 IsAdoption rows Planned = IsGiven rows (codes "plan")
 IsAdoption rows Written = ¬ IsGiven rows (codes "plan")
 
--- the table is shown as JSON where the flag `--json` was given
+-- what is shown is printed as JSON where the flag `--json` was given
 abbrev pub IsForm : List Row → Form → Type 0
 IsForm rows form.Json = IsGiven rows (codes "json")
 IsForm rows form.Lines = ¬ IsGiven rows (codes "json")
@@ -52,7 +52,7 @@ abbrev pub IsKeeping : List Row → PrimaryCopy → Type 0
 IsKeeping rows Kept = IsGiven rows (codes "keep-primary")
 IsKeeping rows ByTable = ¬ IsGiven rows (codes "keep-primary")
 
--- of an adoption it is kept where the flag `--by-table` wasn't
+-- of an adoption, of an image's table or of a text's, it is kept where the flag `--by-table` wasn't
 abbrev pub IsKeptUnless : List Row → PrimaryCopy → Type 0
 IsKeptUnless rows Kept = ¬ IsGiven rows (codes "by-table")
 IsKeptUnless rows ByTable = IsGiven rows (codes "by-table")
@@ -80,7 +80,8 @@ IsJobBy one all name rows (job.Show image after copy form) = (name ≡ codes "sh
 IsJobBy one all name rows (job.Verify image) = (name ≡ codes "verify") × one (codes "IMAGE") (string_bytes image)
 IsJobBy one all name rows (job.Locate image path place) = (name ≡ codes "locate") × one (codes "IMAGE") (string_bytes image)
     × one (codes "PATH") (string_bytes path) × one (codes "K") (string_bytes place)
-IsJobBy one all name rows (job.Free image) = (name ≡ codes "free") × one (codes "IMAGE") (string_bytes image)
+IsJobBy one all name rows (job.Free image form) =
+    (name ≡ codes "free") × one (codes "IMAGE") (string_bytes image) × IsForm rows form
 IsJobBy one all name rows job.Types = (name ≡ codes "types")
 IsJobBy one all name rows (job.Edit image fresh list primary locked_by) = (name ≡ codes "edit") × one (codes "IMAGE") (string_bytes image)
     × (option_map string_bytes fresh ≡ first_of (codes "fresh") rows) × all (codes "WORD") (map string_bytes list.items)
@@ -97,6 +98,10 @@ IsJobBy one all name rows (job.Repair image primary locked_by) = (name ≡ codes
 IsJobBy one all name rows (job.Adopt image other medium adoption primary locked_by) = (name ≡ codes "adopt")
     × one (codes "IMAGE") (string_bytes image) × one (codes "OTHER") (string_bytes other) × IsMedium rows (codes "other-device") medium
     × IsAdoption rows adoption × IsKeptUnless rows primary × IsLockedBy rows locked_by
+IsJobBy one all name rows (job.Set image table fresh adoption primary locked_by) = (name ≡ codes "set")
+    × one (codes "IMAGE") (string_bytes image) × one (codes "TABLE") (string_bytes table)
+    × (option_map string_bytes fresh ≡ first_of (codes "fresh") rows) × IsAdoption rows adoption × IsKeptUnless rows primary
+    × IsLockedBy rows locked_by
 
 -- its texts are the values of its arguments, which have them
 abbrev pub IsJob : Text → List Row → Job → Type 0

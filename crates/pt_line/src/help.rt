@@ -64,7 +64,10 @@ Unreadable, status 2:
   bad word WORD           WORD isn't a word: another letter than a word's,
                           another number of fields, a number or a path that is
                           none, or out of range, not a GUID, a code that isn't
-                          two or four hexadecimal digits
+                          two or four hexadecimal digits"] bad_fresh $($rest)*)
+    };
+    ([$($done:literal)*] bad_fresh $($rest:tt)*) => {
+        text!([$($done)* "
   bad fresh               HEX isn't groups of 32 hexadecimal digits"] $($rest)*)
     };
     ([$($done:literal)*] refused $($rest:tt)*) => {
@@ -146,7 +149,8 @@ Of a device, status 5 and 2:
     };
 }
 
-/// A page's texts: its first line, what both `-h` and `--help` say (or `-h` alone), the exit statuses, and what `--help` alone says.
+/// A page's texts: its first line, what both `-h` and `--help` say (or `-h` alone, or what `--help` says more there), the exit statuses, and
+/// what `--help` alone says.
 macro_rules! page {
     ($about:literal, $words:literal, $status:literal, $($more:tt)*) => {
         Texts {
@@ -162,19 +166,25 @@ macro_rules! page {
             long: text!([$status] $($more)*),
         }
     };
+    ($about:literal, $words:literal, long $explained:literal, $status:literal, $($more:tt)*) => {
+        Texts {
+            about: $about,
+            short: concat!($words, $status),
+            long: text!([$words $explained $status] $($more)*),
+        }
+    };
 }
 
 pub const PTAB: Texts = Texts {
     about: "\
-Shows, verifies, edits and repairs partition tables in disk images: GPT, MBR and
-BSD labels. A power cut during an edit leaves the old table or the new one.",
+Edits GPT, MBR and BSD labels: a power cut leaves the old table or the new one.",
     short: "\
 Exit status: 0 done, 1 no, 2 usage, 3 refused, 4 no table, 5 failed, 6 memory.",
     long: "\
 Exit status:
   0  done, or yes
   1  the answer is no
-  2  usage, or a word, a number or HEX that can't be read
+  2  usage, or a word, a number, HEX or TABLE that can't be read
   3  refused: nothing was written
   4  the image denotes no table
   5  device: the image or PLANFILE can't be opened or read, the image can't be
@@ -272,7 +282,7 @@ pub const TYPES: Texts = page!(
     "Prints the partition types that have names",
     "\
 Each line is `gpt CODE GUID NAME` or `mbr TYPE NAME`. `ptab show --json` prints
-NAME under `type_name`.
+NAME under `type_name`, and a text for `ptab set` may have it under `type`.
 
 ",
     "\
@@ -385,5 +395,48 @@ Of OTHER, status 4, 5 and 6:
   other: device           OTHER can't be opened or read, or isn't a plain file
   other: memory           there was not enough memory to read OTHER's table, and
                           nothing was written"
+    devices
+);
+
+pub const SET: Texts = page!(
+    "Gives the image the table that a text in JSON says, as one change",
+    "\
+TABLE is what `ptab show --json` or `sfdisk --json` prints, edited. Partitions
+that it doesn't have are removed; start, size, type and uuid may be left out.
+For a device: ptab-run --device DEV ptab set @ TABLE
+
+",
+    long "\
+A stop at any moment leaves the old table or the new one. docs/table.md has the
+names in the text and what they mean. These may be left out of an object of
+`partitions`:
+  start  then it is placed as the word n of `edit` places it
+  size   then it has the rest of that block; otherwise it is a number of
+         sectors, or a text as \"512MiB\"
+  type   otherwise it is a GUID, a code, or a name that `ptab types` prints
+  uuid   then it is kept by number; where the image has none for that number,
+         it is the next of --fresh
+
+",
+    "\
+Exit status: 0 done, 2 usage, bad HEX or TABLE, 3 refused, 5 failed: the old
+table or the new one is there, 6 no memory. After 2, 3, 6 nothing was written.",
+    "
+
+Unreadable, status 2:"
+    bad_fresh refused
+    "
+  refused: table KEY      the text has a fault at KEY
+  refused: table KEY N    object N of `partitions`, counted from 1, has a fault
+                          at KEY
+  refused: table uuid N   no fresh GUID is left for object N, or its `uuid` has
+                          a fault"
+    plans locked in_use
+    "
+
+Of TABLE, status 2 and 5:
+  table: too long         TABLE has more than 8 MiB
+  table: not text         TABLE isn't UTF-8
+  table: device           TABLE can't be opened or read"
     devices
 );

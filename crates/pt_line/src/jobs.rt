@@ -223,6 +223,20 @@ fn adopt_job(alloc: Global, inner: &ArgMatches<'_>, image: String) -> Result<Job
     })
 }
 
+fn set_job(alloc: Global, inner: &ArgMatches<'_>, image: String) -> Result<Job, LineError>
+    requires { string_bytes image ≡ text_in (rows_of (found_of inner.now)) (codes "IMAGE") }
+    ensures { IfJob (codes "set") (rows_of (found_of inner.now)) result }
+{
+    Ok(Job::Set {
+        image,
+        table: text_of(alloc, inner, "TABLE")?,
+        fresh: value_of(alloc, inner, "fresh")?,
+        adoption: adoption_of(inner),
+        primary: kept_unless(inner),
+        locked_by: locked_by(inner),
+    })
+}
+
 fn job_of(alloc: Global, name: &str, inner: &ArgMatches<'_>) -> Result<Job, LineError>
     requires { ¬ IsUnknown name.now }
     ensures { IfJob name.now (rows_of (found_of inner.now)) result }
@@ -232,7 +246,10 @@ fn job_of(alloc: Global, name: &str, inner: &ArgMatches<'_>) -> Result<Job, Line
         "show" => show_job(alloc, inner, image),
         "verify" => Ok(Job::Verify { image }),
         "locate" => place_job(alloc, inner, image),
-        "free" => Ok(Job::Free { image }),
+        "free" => Ok(Job::Free {
+            image,
+            form: form_of(inner),
+        }),
         "types" => Ok(Job::Types),
         "edit" => edit_job(alloc, inner, image),
         "plan" => plan_job(alloc, inner, image),
@@ -251,6 +268,7 @@ fn job_of(alloc: Global, name: &str, inner: &ArgMatches<'_>) -> Result<Job, Line
             locked_by: locked_by(inner),
         }),
         "adopt" => adopt_job(alloc, inner, image),
+        "set" => set_job(alloc, inner, image),
         _ => unreachable!(),
     }
 }

@@ -31,16 +31,16 @@ pub enum LockedBy {
     Caller,
 }
 
-/// How a table is shown.
+/// How a table, or what is free in it, is shown.
 #[derive(Clone, Copy)]
 pub enum Form {
     /// In lines.
     Lines,
-    /// As an object of JSON, by `--json`.
+    /// As JSON, by `--json`.
     Json,
 }
 
-/// What an adoption comes to.
+/// What an adoption comes to, of another image's table or of a text's.
 #[derive(Clone, Copy)]
 pub enum Adoption {
     /// The image's new table.
@@ -109,6 +109,7 @@ pub enum Job {
     },
     Free {
         image: String,
+        form: Form,
     },
     /// The partition types that have names. It is asked of no image.
     Types,
@@ -143,6 +144,15 @@ pub enum Job {
         image: String,
         other: String,
         other_medium: Medium,
+        adoption: Adoption,
+        primary: PrimaryCopy,
+        locked_by: LockedBy,
+    },
+    Set {
+        image: String,
+        /// The file of a table as text. `-` is standard input.
+        table: String,
+        fresh: Option<String>,
         adoption: Adoption,
         primary: PrimaryCopy,
         locked_by: LockedBy,

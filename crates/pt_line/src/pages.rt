@@ -9,7 +9,7 @@ ghost use Rattle.pt_line.specs.inner.CommandLine as spec_inner;
 ghost use Rattle.pt_line.specs.inner.Lines.{AddsPage, AddsRules, Begins, IsArg, IsCommand, ReadsAs, TakesArg};
 
 use crate::help::{
-    ADOPT, APPLY, CHECK, EDIT, FREE, LOCATE, PLAN, PTAB, REPAIR, SHOW, TYPES, Texts, VERIFY,
+    ADOPT, APPLY, CHECK, EDIT, FREE, LOCATE, PLAN, PTAB, REPAIR, SET, SHOW, TYPES, Texts, VERIFY,
     VERSION,
 };
 use clap::{Arg, ArgAction, Command};
@@ -32,6 +32,7 @@ pub(crate) enum Subcommand {
     Apply,
     Repair,
     Adopt,
+    Set,
 }
 
 /// The subcommand with this name.
@@ -50,6 +51,7 @@ fn subcommand_named(name: &str) -> Option<Subcommand>
         "apply" => Some(Subcommand::Apply),
         "repair" => Some(Subcommand::Repair),
         "adopt" => Some(Subcommand::Adopt),
+        "set" => Some(Subcommand::Set),
         _ => None,
     }
 }
@@ -133,7 +135,7 @@ fn flag<'a>(alloc: Global, id: &'a str, help: &'a str) -> Arg<'a>
 fn json<'a>(alloc: Global) -> Arg<'a>
     ensures { IsArg spec.json result }
 {
-    flag(alloc, "json", "Print the table as an object of JSON")
+    flag(alloc, "json", "Print JSON in place of lines")
 }
 
 fn device<'a>(alloc: Global) -> Arg<'a>
@@ -171,6 +173,16 @@ fn other<'a>(alloc: Global) -> Arg<'a>
         alloc,
         "OTHER",
         "The image whose table is taken, a plain file that is only read",
+    )
+}
+
+fn table_file<'a>(alloc: Global) -> Arg<'a>
+    ensures { IsArg (spec.needed (codes "TABLE")) result }
+{
+    needed(
+        alloc,
+        "TABLE",
+        "A table as JSON, a plain file of 8 MiB at most; -: standard input",
     )
 }
 
@@ -287,6 +299,19 @@ fn on_image<'a>(
     on_disk(alloc, sizes, image_page(alloc, name, texts))
 }
 
+fn on_free<'a>(
+    alloc: Global,
+    sizes: &'a [&'a str],
+    name: &'a str,
+    texts: Texts,
+) -> Result<Command<'a>, AllocError>
+    ensures { IfOk result (IsCommand (spec_inner.page name.entry.now (spec.free_rules sizes.entry))) }
+{
+    let page = image_page(alloc, name, texts);
+    let page = with_arg(page, json(alloc));
+    on_disk(alloc, sizes, page)
+}
+
 fn on_show<'a>(
     alloc: Global,
     sizes: &'a [&'a str],
@@ -376,6 +401,22 @@ fn on_other<'a>(
     on_disk(alloc, sizes, page)
 }
 
+fn on_table<'a>(
+    alloc: Global,
+    sizes: &'a [&'a str],
+    name: &'a str,
+    texts: Texts,
+) -> Result<Command<'a>, AllocError>
+    ensures { IfOk result (IsCommand (spec_inner.page name.entry.now (spec.table_rules sizes.entry))) }
+{
+    let page = image_page(alloc, name, texts);
+    let page = with_arg(page, table_file(alloc));
+    let page = with_arg(page, plan_only(alloc));
+    let page = with_arg(page, fresh(alloc));
+    let page = with_arg(page, by_table(alloc));
+    on_disk(alloc, sizes, page)
+}
+
 /// The command with one more page, where both were made.
 // So `command` has no early end, in which it would own a command.
 fn with_page<'a>(
@@ -411,7 +452,7 @@ fn page_of<'a>(
         Subcommand::Show => on_show(alloc, sizes, "show", SHOW),
         Subcommand::Verify => on_image(alloc, sizes, "verify", VERIFY),
         Subcommand::Locate => on_place(alloc, sizes, "locate", LOCATE),
-        Subcommand::Free => on_image(alloc, sizes, "free", FREE),
+        Subcommand::Free => on_free(alloc, sizes, "free", FREE),
         Subcommand::Types => Ok(page(alloc, "types", TYPES)),
         Subcommand::Edit => writing(alloc, on_words(alloc, sizes, "edit", EDIT)),
         Subcommand::Plan => on_words(alloc, sizes, "plan", PLAN),
@@ -419,6 +460,7 @@ fn page_of<'a>(
         Subcommand::Apply => writing(alloc, on_plan(alloc, sizes, "apply", APPLY)),
         Subcommand::Repair => writing(alloc, on_mending(alloc, sizes, "repair", REPAIR)),
         Subcommand::Adopt => writing(alloc, on_other(alloc, sizes, "adopt", ADOPT)),
+        Subcommand::Set => writing(alloc, on_table(alloc, sizes, "set", SET)),
     }
 }
 
@@ -437,7 +479,8 @@ fn whole<'a>(alloc: Global, sizes: &'a [&'a str]) -> Result<Command<'a>, AllocEr
     let ptab = with_page(ptab, page_of(alloc, sizes, Subcommand::Check));
     let ptab = with_page(ptab, page_of(alloc, sizes, Subcommand::Apply));
     let ptab = with_page(ptab, page_of(alloc, sizes, Subcommand::Repair));
-    with_page(ptab, page_of(alloc, sizes, Subcommand::Adopt))
+    let ptab = with_page(ptab, page_of(alloc, sizes, Subcommand::Adopt));
+    with_page(ptab, page_of(alloc, sizes, Subcommand::Set))
 }
 
 /// The command with the page of one subcommand.

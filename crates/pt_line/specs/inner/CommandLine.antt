@@ -3,9 +3,9 @@ use Rattle.std.specs.Prelude.{List, [], ◌∷◌, false, codes}
 use Rattle.std.specs.Borrow.{Bor}
 use Rattle.clap.specs.Words.{App, Rule, Text}
 use Rattle.pt_line.specs.declared.pages.Subcommand.{Subcommand}
-use Rattle.pt_line.specs.declared.pages.Subcommand.TheVariants.{Show, Verify, Locate, Free, Types, Edit, Plan, Check, Apply, Repair, Adopt}
-use Rattle.pt_line.specs.CommandLine.{image_rules, show_rules, place_rules, word_rules, plan_rules, mend_rules, other_rules, writing}
-use Rattle.pt_line.specs.CommandLine.{subcommand, top}
+use Rattle.pt_line.specs.declared.pages.Subcommand.TheVariants.{Show, Verify, Locate, Free, Types, Edit, Plan, Check, Apply, Repair, Adopt, Set}
+use Rattle.pt_line.specs.CommandLine.{image_rules, free_rules, show_rules, place_rules, word_rules, plan_rules, mend_rules, other_rules}
+use Rattle.pt_line.specs.CommandLine.{table_rules, writing, subcommand, top}
 
 abbrev pub name_of : Subcommand → Text
 name_of Show = codes "show"
@@ -19,12 +19,13 @@ name_of Check = codes "check"
 name_of Apply = codes "apply"
 name_of Repair = codes "repair"
 name_of Adopt = codes "adopt"
+name_of Set = codes "set"
 
 abbrev pub rules_of : Bor (List (Bor Text)) → Subcommand → List Rule
 rules_of sizes Show = show_rules sizes
 rules_of sizes Verify = image_rules sizes
 rules_of sizes Locate = place_rules sizes
-rules_of sizes Free = image_rules sizes
+rules_of sizes Free = free_rules sizes
 rules_of sizes Types = []
 rules_of sizes Edit = writing (word_rules sizes)
 rules_of sizes Plan = word_rules sizes
@@ -32,6 +33,7 @@ rules_of sizes Check = plan_rules sizes
 rules_of sizes Apply = writing (plan_rules sizes)
 rules_of sizes Repair = writing (mend_rules sizes)
 rules_of sizes Adopt = writing (other_rules sizes)
+rules_of sizes Set = writing (table_rules sizes)
 
 -- a subcommand as a command of its own
 abbrev pub page : Text → List Rule → App

@@ -80,7 +80,7 @@ IsSizeOrLess rows (Some Bytes4096) = first_of (codes "sector-size") rows ≡ Som
 abbrev pub IsUnknown : Text → Type 0
 IsUnknown name = (name ≢ codes "show") × (name ≢ codes "verify") × (name ≢ codes "locate") × (name ≢ codes "free")
     × (name ≢ codes "types") × (name ≢ codes "edit") × (name ≢ codes "plan") × (name ≢ codes "check") × (name ≢ codes "apply")
-    × (name ≢ codes "repair") × (name ≢ codes "adopt")
+    × (name ≢ codes "repair") × (name ≢ codes "adopt") × (name ≢ codes "set")
 
 -- what the name and the values come to
 abbrev pub IfJob : Text → List Row → Result Job LineError → Type 0

@@ -13,4 +13,5 @@ returns c =
     let check = IfOk-weaker c.with_page-ptab-8.result _ _ (λ r adds. adds _ _ plan c.page_of-8.ensures) c.with_page-ptab-8.ensures in
     let apply = IfOk-weaker c.with_page-ptab-9.result _ _ (λ r adds. adds _ _ check c.page_of-9.ensures) c.with_page-ptab-9.ensures in
     let repair = IfOk-weaker c.with_page-ptab-10.result _ _ (λ r adds. adds _ _ apply c.page_of-10.ensures) c.with_page-ptab-10.ensures in
-    IfOk-weaker c.with_page.result _ _ (λ r adds. adds _ _ repair c.page_of-11.ensures) c.with_page.ensures
+    let adopt = IfOk-weaker c.with_page-ptab-11.result _ _ (λ r adds. adds _ _ repair c.page_of-11.ensures) c.with_page-ptab-11.ensures in
+    IfOk-weaker c.with_page.result _ _ (λ r adds. adds _ _ adopt c.page_of-12.ensures) c.with_page.ensures
