@@ -1,0 +1,13 @@
+//! A table from a text of JSON, that of `ptab show --json` or of `sfdisk --json`: all that the text says, or its first fault.
+//!
+//! docs/table.md has the names in it and what they stand for.
+#![tactic(auto)]
+
+mod digits;
+mod draft;
+mod fault;
+mod members;
+mod values;
+
+pub use draft::{Chain, DiskId, Draft, Extent, NamedType, PartDraft, Parts, TableKind};
+pub use fault::{DraftError, Key, TextFault};
