@@ -1,6 +1,6 @@
 -- Numbers as digits.
-use Rattle.std.specs.Prelude.{ℕ, List, [], ◌∷◌, ◌+◌, ◌-◌, ◌*◌, ◌^◌, ◌&&◌, length, Option, Some, None, if◌then◌else◌, nat_lt, drop, take, codes}
-use Rattle.std.specs.Prelude.{bytes_eq, option_map, option_and_then, false, ◌||◌}
+use Rattle.std.specs.Prelude.{ℕ, List, [], ◌∷◌, ◌+◌, ◌-◌, ◌*◌, ◌^◌, ◌&&◌, Option, Some, None, if◌then◌else◌, nat_lt}
+use Rattle.std.specs.Prelude.{Bool, false}
 use Rattle.std.specs.Char.{is_ascii_digit}
 use Rattle.std.specs.List.{list_all}
 
@@ -9,9 +9,10 @@ unfoldable pub number_after : ℕ → List ℕ → ℕ
 number_after n [] = n
 number_after n (c ∷ cs) = number_after (n * 10 + (c - 48)) cs
 
--- there is a digit, and nothing but digits
+-- one digit at least, and nothing but digits
 abbrev pub are_digits : List ℕ → Bool
-are_digits text = nat_lt 0 (length text) && list_all is_ascii_digit text
+are_digits [] = false
+are_digits (c ∷ cs) = list_all is_ascii_digit (c ∷ cs)
 
 -- the number that a text of decimal digits writes, where it fits 64 bits
 abbrev pub decimal_of : List ℕ → Option ℕ

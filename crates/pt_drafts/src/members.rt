@@ -46,6 +46,7 @@ fn is_name(names: &[&str], name: &str) -> bool
     false
 }
 
+#[tactic(auto, unfolding(crate::specs::Members::all_named))]
 fn all_named(members: &Map<String, Value>, names: &[&str]) -> bool
     ensures { result ≡ all_named (map (λ n. n.now) names.now) (members_view members.now.entries) }
 {
