@@ -1,1 +1,4 @@
+pub mod Cuts
 pub mod Decimals
+pub mod Filling
+pub mod Units

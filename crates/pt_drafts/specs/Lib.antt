@@ -1,5 +1,10 @@
+pub mod Attributes
 pub mod Digits
 pub mod Keys
+pub mod Labels
 pub mod Members
+pub mod Names
+pub mod Pieces
+pub mod Texts
 pub mod Values
 pub mod inner

@@ -1,5 +1,5 @@
 -- Which values of JSON stand for a number, a text or a list.
-use Rattle.std.specs.Prelude.{ℕ, List, [], ◌∷◌, Bool, Option, Some, None, option_map, option_and_then, is_some, if◌then◌else◌, nat_lt, Result}
+use Rattle.std.specs.Prelude.{ℕ, List, [], ◌∷◌, Bool, Option, Some, None, option_map, option_and_then, is_some, if◌then◌else◌, nat_lt, nat_le, ◌==◌, length, Result}
 use Rattle.std.specs.Result.{result_ok}
 use Rattle.hex.specs.Hex.{decode_sized}
 use Rattle.serde_json.specs.Data.{Data, Items, no_items, item}
@@ -36,3 +36,21 @@ list_in d = option_map list_of (as_array d)
 unfoldable pub all_of : {A B : Type 0} → (A → Option B) → List A → Option (List B)
 all_of f [] = Some []
 all_of f (x ∷ xs) = option_and_then (λ y. option_map (λ ys. y ∷ ys) (all_of f xs)) (f x)
+
+-- what the values of an array of n stand for
+abbrev pub if_many : {A B : Type 0} → ℕ → (A → Option B) → List A → Option (List B)
+if_many n f xs = if length xs == n then all_of f xs else None
+
+abbrev pub exactly : {A : Type 0} → ℕ → (Data → Option A) → Data → Option (List A)
+exactly n f d = option_and_then (if_many n f) (list_in d)
+
+-- what those of an array of n at most stand for
+abbrev pub if_few : {A B : Type 0} → ℕ → (A → Option B) → List A → Option (List B)
+if_few n f xs = if nat_le (length xs) n then all_of f xs else None
+
+abbrev pub at_most : {A : Type 0} → ℕ → (Data → Option A) → Data → Option (List A)
+at_most n f d = option_and_then (if_few n f) (list_in d)
+
+-- what all values of an array stand for
+abbrev pub each_of : {A : Type 0} → (Data → Option A) → Data → Option (List A)
+each_of f d = option_and_then (all_of f) (list_in d)

@@ -3,10 +3,15 @@
 //! docs/table.md has the names in it and what they stand for.
 #![tactic(auto)]
 
+mod arrays;
+mod attributes;
 mod digits;
 mod draft;
 mod fault;
+mod labels;
 mod members;
+mod names;
+mod texts;
 mod values;
 
 pub use draft::{Chain, DiskId, Draft, Extent, NamedType, PartDraft, Parts, TableKind};
