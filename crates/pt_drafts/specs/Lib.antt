@@ -4,7 +4,9 @@ pub mod Keys
 pub mod Labels
 pub mod Members
 pub mod Names
+pub mod Parts
 pub mod Pieces
+pub mod Tables
 pub mod Texts
 pub mod Values
 pub mod inner

@@ -3,7 +3,7 @@ use Rattle.std.specs.Prelude.{ℕ, List, [], ◌∷◌, Bool, true, false, Optio
 use Rattle.std.specs.Prelude.{Result, Ok, Err, bytes_eq, ◌&&◌, if◌then◌else◌}
 use Rattle.std.specs.List.{list_any}
 use Rattle.serde_json.specs.Data.{Data, Members, no_members, member}
-use Rattle.serde_json.specs.Find.{as_object, get}
+use Rattle.serde_json.specs.Find.{as_object, as_str, get}
 use Rattle.pt_drafts.specs.declared.fault.Key.{Key}
 
 -- one step after another, up to the first fault
@@ -45,3 +45,11 @@ all_named names (member name d ms) = is_name names name && all_named names ms
 -- an object whose members all have one of these names
 abbrev pub has_only : List (List ℕ) → Data → Bool
 has_only names d = unwrap_or (option_map (all_named names) (as_object d)) false
+
+-- what stands under this name, where something does, is a text
+abbrev pub is_text_or_none : Option Data → Bool
+is_text_or_none None = true
+is_text_or_none (Some d) = is_some (as_str d)
+
+abbrev pub is_text : List ℕ → Data → Bool
+is_text name d = is_text_or_none (get name d)

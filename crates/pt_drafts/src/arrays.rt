@@ -1,10 +1,10 @@
 //! Arrays of JSON.
 
-ghost use Rattle.std.specs.Prelude.{◌≡◌, ◌≤◌, ◌^◌, IfOk, map, length, replicate};
+ghost use Rattle.std.specs.Prelude.{◌≡◌, ◌≤◌, ◌^◌, IfOk, Some, None, if◌then◌else◌, map, length};
 ghost use Rattle.std.specs.Option.{option_map};
 ghost use Rattle.serde_json.specs.View.{view};
 ghost use Rattle.pt_drafts.specs.Values.{all_of, each_of, exactly, list_in, whole, whole_below};
-ghost use Rattle.pt_drafts.specs.inner.Arrays.{written_over};
+ghost use Rattle.pt_drafts.specs.inner.Arrays.{filled};
 
 use crate::draft::Chain;
 use crate::values::Stands;
@@ -21,34 +21,20 @@ pub(crate) fn list(value: &Value) -> Option<&[Value]>
     }
 }
 
-/// What values stand for, written over the beginning of an array.
-pub(crate) fn filled<T: Stands, const N: usize>(
-    values: &[Value],
-    empty: [T::Out; N],
-) -> Option<[T::Out; N]>
+/// Writes what values stand for over the beginning of a list, and says whether each of them stands for something.
+pub(crate) fn fill<T: Stands>(values: &[Value], all: &mut [T::Out]) -> bool
 where
     T::Out: Copy,
-    requires { length values.now ≤ N }
-    ensures { result ≡ option_map (written_over empty) (all_of T.stands_for (map view values.now)) }
+    requires { length values.now ≤ length all.old }
+    ensures { (if result then Some all.new else None) ≡ filled all.old (all_of T.stands_for (map view values.now)) }
 {
-    let mut all = empty;
     for k in 0..values.len() {
-        all[k] = T::read(&values[k])?;
+        all[k] = match T::read(&values[k]) {
+            Some(found) => found,
+            None => return false,
+        };
     }
-    Some(all)
-}
-
-// What the values of an array of just this length stand for.
-pub(crate) fn exact<T: Stands, const N: usize>(value: &Value, empty: [T::Out; N]) -> Option<[T::Out; N]>
-where
-    T::Out: Copy,
-    ensures { result ≡ exactly N T.stands_for (view value.now) }
-{
-    let values = list(value)?;
-    if values.len() != N {
-        return None;
-    }
-    filled::<T, N>(values, empty)
+    true
 }
 
 impl Stands for [u32; 4] {
@@ -57,7 +43,16 @@ impl Stands for [u32; 4] {
     ghost stands_for = { exactly 4 (whole_below (2 ^ 32)) };
 
     fn read(value: &Value) -> Option<[u32; 4]> {
-        exact::<u32, 4>(value, [0; 4])
+        let values = list(value)?;
+        if values.len() != 4 {
+            return None;
+        }
+        let mut all = [0; 4];
+        if fill::<u32>(values, &mut all) {
+            Some(all)
+        } else {
+            None
+        }
     }
 }
 

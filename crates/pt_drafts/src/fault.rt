@@ -1,9 +1,10 @@
 //! What is wrong with a text.
 
-ghost use Rattle.std.specs.Prelude.{Some};
+ghost use Rattle.std.specs.Prelude.{◌≡◌, Some};
 ghost use Rattle.pt_drafts.specs.Keys.{key_text};
+ghost use Rattle.pt_drafts.specs.declared.fault.DraftError.TheVariants as error;
 
-use std::alloc::AllocError;
+use std::alloc::{AllocError, AllocFailed};
 use std::error::Error;
 use std::fmt;
 
@@ -109,7 +110,25 @@ pub enum DraftError {
 }
 
 impl From<AllocError> for DraftError {
+    ghost from_gives = { λ _ e. e ≡ error.Memory };
+
     fn from(_: AllocError) -> DraftError {
         DraftError::Memory
+    }
+}
+
+impl<T: Drop> From<AllocFailed<T>> for DraftError {
+    ghost from_gives = { λ _ e. e ≡ error.Memory };
+
+    fn from(_: AllocFailed<T>) -> DraftError {
+        DraftError::Memory
+    }
+}
+
+impl From<TextFault> for DraftError {
+    ghost from_gives = { λ fault e. e ≡ error.Fault fault };
+
+    fn from(fault: TextFault) -> DraftError {
+        DraftError::Fault(fault)
     }
 }

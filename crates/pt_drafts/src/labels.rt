@@ -5,7 +5,7 @@ ghost use Rattle.serde_json.specs.View.{view};
 ghost use Rattle.pt_drafts.specs.Labels.{label_of, label_parts, part_numbers, part_of};
 ghost use Rattle.pt_drafts.specs.Values.{exactly, if_not_null};
 
-use crate::arrays::exact;
+use crate::arrays::{fill, list};
 use crate::members::{has_only, needed};
 use crate::values::Stands;
 use pt_bsd::{Label, LabelEntry};
@@ -52,7 +52,16 @@ impl Stands for [Option<LabelEntry>; 8] {
     ghost stands_for = { exactly 8 (if_not_null part_of) };
 
     fn read(value: &Value) -> Option<[Option<LabelEntry>; 8]> {
-        exact::<Option<LabelEntry>, 8>(value, [None; 8])
+        let values = list(value)?;
+        if values.len() != 8 {
+            return None;
+        }
+        let mut all = [None; 8];
+        if fill::<Option<LabelEntry>>(values, &mut all) {
+            Some(all)
+        } else {
+            None
+        }
     }
 }
 

@@ -11,8 +11,12 @@ mod fault;
 mod labels;
 mod members;
 mod names;
+mod parts;
+mod table;
+mod text;
 mod texts;
 mod values;
 
 pub use draft::{Chain, DiskId, Draft, Extent, NamedType, PartDraft, Parts, TableKind};
 pub use fault::{DraftError, Key, TextFault};
+pub use text::read_draft;

@@ -2,7 +2,7 @@
 
 ghost use Rattle.std.specs.Prelude.{◌≡◌, map};
 ghost use Rattle.serde_json.specs.View.{members_view, view};
-ghost use Rattle.pt_drafts.specs.Members.{all_named, check, given, has_only, is_name, needed};
+ghost use Rattle.pt_drafts.specs.Members.{all_named, check, given, has_only, is_name, is_text, needed};
 
 use crate::fault::Key;
 use crate::values::Stands;
@@ -65,5 +65,15 @@ pub(crate) fn has_only(value: &Value, names: &[&str]) -> bool
     match value.as_object() {
         Some(members) => all_named(members, names),
         None => false,
+    }
+}
+
+/// Whether a text stands there, where something does.
+pub(crate) fn is_text(object: &Value, name: &str) -> bool
+    ensures { result ≡ is_text name.now (view object.now) }
+{
+    match object.get(name) {
+        Some(value) => value.is_string(),
+        None => true,
     }
 }

@@ -4,7 +4,7 @@ ghost use Rattle.std.specs.Prelude.{◌≡◌, ◌≤◌, ◌<◌, IfSome, IfNon
 ghost use Rattle.pt_drafts.specs.Names.{has_zero, name_of, padded, units_in, units_of};
 ghost use Rattle.pt_drafts.specs.Texts.{by_text};
 
-use crate::arrays::{filled, list};
+use crate::arrays::{fill, list};
 use crate::values::Stands;
 use serde_json::Value;
 
@@ -77,6 +77,11 @@ impl Stands for NameUnits {
         if values.len() > NAME_UNITS {
             return None;
         }
-        filled::<u16, NAME_UNITS>(values, [0; NAME_UNITS])
+        let mut units = [0; NAME_UNITS];
+        if fill::<u16>(values, &mut units) {
+            Some(units)
+        } else {
+            None
+        }
     }
 }
