@@ -5,7 +5,7 @@ use Rattle.std.specs.Prelude.{if◌then◌else◌, nat_lt, slice_index}
 use Rattle.std.specs.Char.{is_ascii_digit}
 use Rattle.std.specs.List.{list_all}
 use Rattle.std.proofs.lemmas.Bool.{true≢false, ltb-true, lt-ltb}
-use Rattle.pt_drafts.specs.Digits.{number_after, are_digits, decimal_of, digits_at_end}
+use Rattle.pt_drafts.specs.Digits.{number_after, decimal_of, digits_at_end}
 use Rattle.pt_drafts.specs.inner.Steps.{next_number}
 
 -- the number that digits write behind those of n, where it fits

@@ -4,7 +4,7 @@ use Rattle.std.proofs.Common.{append_assoc, append-nil}
 use Rattle.std.specs.Prelude.{option_and_then, option_map, replicate}
 use Rattle.std.proofs.lemmas.Bool.{eq-eqb, le-leb}
 use Rattle.std.proofs.lemmas.List.{length-map, drop_more, drop_all, drop-replicate, take-append-drop, length-take-le}
-use Rattle.serde_json.specs.Data.{Data, Items}
+use Rattle.serde_json.specs.Data.{Data}
 use Rattle.serde_json.specs.View.{items_of}
 use Rattle.pt_drafts.specs.Values.{all_of, list_of, list_in, exactly, at_most}
 use Rattle.pt_drafts.specs.inner.Arrays.{joined, filled, written_over}

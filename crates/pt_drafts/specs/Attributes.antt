@@ -1,7 +1,6 @@
 -- Attributes in sfdisk's words.
 use Rattle.std.specs.Prelude.{ℕ, List, [], ◌∷◌, ◌^◌, ◌&&◌, Option, Some, None, if◌then◌else◌, nat_le, nat_lt, nat_eq, codes, bytes_eq}
 use Rattle.std.specs.Prelude.{Bool, option_and_then, bit_or, bit_and}
-use Rattle.std.specs.Option.{option_or}
 use Rattle.pt_drafts.specs.Digits.{decimal_of}
 use Rattle.pt_drafts.specs.Pieces.{behind, pieces}
 

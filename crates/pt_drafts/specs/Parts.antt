@@ -1,9 +1,7 @@
 -- What an object of `partitions` says.
-use Rattle.std.specs.Prelude.{ℕ, List, [], ◌∷◌, ◌^◌, Bool, true, false, Option, Some, None, Result, Ok, Err, if◌then◌else◌, codes, is_some, option_map}
+use Rattle.std.specs.Prelude.{ℕ, List, [], ◌∷◌, ◌^◌, Bool, Option, Some, None, Result, Ok, Err, if◌then◌else◌, codes, is_some, option_map}
 use Rattle.serde_json.specs.Data.{Data}
-use Rattle.serde_json.specs.Find.{as_bool, as_object, as_str, get}
-use Rattle.pt_guid.specs.declared.guid.Guid.{Guid}
-use Rattle.pt_bsd.specs.declared.label.Label.{Label}
+use Rattle.serde_json.specs.Find.{as_bool, as_object}
 use Rattle.pt_drafts.specs.Attributes.{are_worded, bits_of}
 use Rattle.pt_drafts.specs.Labels.{label_of}
 use Rattle.pt_drafts.specs.Members.{check, given, has_only, is_text}
@@ -30,7 +28,7 @@ one_of key (Some x) (Some y) = Err key
 
 -- `number`, or else the number at the end of `node`
 abbrev pub number_from : Option ℕ → Option (Option ℕ) → Option ℕ
-number_from (Some n) node = Some n
+number_from (Some n) at_end = Some n
 number_from None (Some n) = n
 number_from None None = None
 

@@ -1,5 +1,5 @@
 -- Pieces of texts.
-use Rattle.std.specs.Prelude.{ℕ, List, [], ◌-◌, ◌==◌, Option, Some, None, if◌then◌else◌, length, take, drop, bytes_eq}
+use Rattle.std.specs.Prelude.{ℕ, List, ◌-◌, ◌==◌, Option, Some, None, if◌then◌else◌, length, take, drop, bytes_eq}
 use Rattle.std.specs.List.{slice_split}
 
 -- what stands behind a beginning, where the text has it

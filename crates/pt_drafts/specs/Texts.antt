@@ -1,5 +1,5 @@
 -- What texts stand for.
-use Rattle.std.specs.Prelude.{ℕ, List, Bool, false, ◌*◌, ◌^◌, ◌&&◌, ◌||◌, ◌==◌, Option, Some, None, if◌then◌else◌, nat_le, length, codes, bytes_eq}
+use Rattle.std.specs.Prelude.{ℕ, List, Bool, false, ◌*◌, ◌^◌, ◌&&◌, ◌||◌, Option, Some, None, if◌then◌else◌, nat_le, length, codes, bytes_eq}
 use Rattle.std.specs.Prelude.{option_map, option_and_then, is_some, unwrap_or}
 use Rattle.std.specs.Char.{is_ascii_hexdigit}
 use Rattle.std.specs.List.{list_all}

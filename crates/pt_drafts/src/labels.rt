@@ -66,7 +66,16 @@ impl Stands for [Option<LabelEntry>; 8] {
 }
 
 const LABEL_NAMES: [&str; 10] = [
-    "kind", "subtype", "type_name", "pack_name", "geometry", "unit", "kept", "bbsize", "sbsize", "entries",
+    "kind",
+    "subtype",
+    "type_name",
+    "pack_name",
+    "geometry",
+    "unit",
+    "kept",
+    "bbsize",
+    "sbsize",
+    "entries",
 ];
 
 fn label_parts(label: &Value) -> Option<Label>

@@ -13,6 +13,8 @@ mod members;
 mod names;
 mod parts;
 mod table;
+#[cfg(test)]
+mod tests;
 mod text;
 mod texts;
 mod values;

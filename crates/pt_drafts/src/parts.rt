@@ -91,10 +91,7 @@ fn name(part: &Value) -> Result<Option<[u16; 36]>, Key>
     one_of(name, units, Key::NameUnits)
 }
 
-fn attributes_from(
-    number: Option<u64>,
-    words: Option<Option<u64>>,
-) -> Result<Option<u64>, Key>
+fn attributes_from(number: Option<u64>, words: Option<Option<u64>>) -> Result<Option<u64>, Key>
     ensures { result ≡ attributes_from number words }
 {
     match (number, words) {
@@ -189,8 +186,25 @@ fn marks_of(part: &Value) -> Result<Marks, Key>
 // ---- the whole object
 
 const PART_NAMES: [&str; 19] = [
-    "number", "node", "start", "size", "last", "offset", "type", "type_name", "uuid", "name", "name_units", "attributes", "attrs",
-    "bootable", "boot", "start_chs", "end_chs", "record", "bsd",
+    "number",
+    "node",
+    "start",
+    "size",
+    "last",
+    "offset",
+    "type",
+    "type_name",
+    "uuid",
+    "name",
+    "name_units",
+    "attributes",
+    "attrs",
+    "bootable",
+    "boot",
+    "start_chs",
+    "end_chs",
+    "record",
+    "bsd",
 ];
 
 fn part_with(place: Place, identity: Identity, marks: Marks) -> PartDraft

@@ -1,10 +1,9 @@
 //! What a table says.
 
-ghost use Rattle.std.specs.Prelude.{◌≡◌, IfOk, IfErr, None, Ok, map};
+ghost use Rattle.std.specs.Prelude.{◌≡◌, IfOk, IfErr, None, Ok, [], codes, map};
 ghost use Rattle.std.specs.Option.{option_map};
 ghost use Rattle.serde_json.specs.Find.{get};
 ghost use Rattle.serde_json.specs.View.{view};
-ghost use Rattle.std.specs.Prelude.{codes};
 ghost use Rattle.pt_drafts.specs.Members.{given};
 ghost use Rattle.pt_drafts.specs.Tables.{Tells, draft_with, entries_from, entries_in, head_in, is_list, is_sectors, listed, parts_from};
 ghost use Rattle.pt_drafts.specs.Tables.{room_in, table_in, told};
@@ -148,28 +147,50 @@ fn parts_of(alloc: Global, objects: &[Value]) -> Result<Parts, DraftError>
 {
     let mut parts = Vec::new(alloc);
     for k in 0..objects.len() {
-        parts.push(told(part(&objects[k]), Some(k as u64 + 1))?)?;
+        match told(part(&objects[k]), Some(k as u64 + 1)) {
+            Ok(found) => parts.push(found)?,
+            Err(fault) => return Err(DraftError::Fault(fault)),
+        }
     }
     Ok(Parts::new(parts))
+}
+
+#[tactic(auto, unfolding(crate::specs::Tables::parts_from))]
+fn no_parts(alloc: Global) -> Parts
+    ensures { parts_from 1 [] ≡ Ok result }
+{
+    Parts::new(Vec::new(alloc))
 }
 
 fn parts(alloc: Global, table: &Value) -> Result<Parts, DraftError>
     ensures ok { IfOk result (λ parts. parts_from 1 (listed (get (codes "partitions") (view table.now))) ≡ Ok parts) }
     ensures err { IfErr result (Tells (parts_from 1 (listed (get (codes "partitions") (view table.now))))) }
 {
-    if let Some(value) = table.get("partitions") {
-        if let Some(objects) = list(value) {
-            return parts_of(alloc, objects);
-        }
+    match table.get("partitions") {
+        Some(value) => match list(value) {
+            Some(objects) => parts_of(alloc, objects),
+            None => Ok(no_parts(alloc)),
+        },
+        None => Ok(no_parts(alloc)),
     }
-    Ok(Parts::new(Vec::new(alloc)))
 }
 
 // ---- the whole table
 
 const TABLE_NAMES: [&str; 13] = [
-    "label", "device", "unit", "sectorsize", "sectors", "id", "firstlba", "lastlba", "entries", "table-length", "grain",
-    "partitions", "chain",
+    "label",
+    "device",
+    "unit",
+    "sectorsize",
+    "sectors",
+    "id",
+    "firstlba",
+    "lastlba",
+    "entries",
+    "table-length",
+    "grain",
+    "partitions",
+    "chain",
 ];
 
 fn draft_with(head: Head, room: Room, chain: Option<Chain>, parts: Parts) -> Draft

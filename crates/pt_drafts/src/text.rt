@@ -20,13 +20,7 @@ fn only_table(value: &Value) -> Option<&Value>
         return None;
     }
     match value.get("partitiontable") {
-        Some(table) => {
-            if table.is_object() {
-                Some(table)
-            } else {
-                None
-            }
-        }
+        Some(table) => { if table.is_object() { Some(table) } else { None } }
         None => None,
     }
 }

@@ -1,4 +1,4 @@
-use Rattle.std.proofs.Common.{◌≡◌, List, ℕ, map, drop, Bor}
+use Rattle.std.proofs.Common.{◌≡◌, List, ℕ, map, Bor}
 use Rattle.serde_json.specs.View.{members_view}
 use Rattle.pt_drafts.specs.Members.{all_named}
 use Rattle.pt_drafts.proofs.members.all_named.Given as goal

@@ -1,5 +1,4 @@
-use Rattle.std.proofs.Common.{◌∙◌, ◌^◌, ap, sym, refl, map, replicate, Some, arith}
-use Rattle.std.specs.Prelude.{if◌then◌else◌, None}
+use Rattle.std.proofs.Common.{◌^◌, refl, replicate}
 use Rattle.serde_json.specs.View.{view}
 use Rattle.pt_drafts.specs.Values.{whole_below}
 use Rattle.pt_drafts.proofs.Filling.{many_filled}

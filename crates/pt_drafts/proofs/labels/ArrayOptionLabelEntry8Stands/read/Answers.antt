@@ -1,4 +1,4 @@
-use Rattle.std.proofs.Common.{◌∙◌, ap, sym, refl, map, replicate, Some, None, arith}
+use Rattle.std.proofs.Common.{refl, replicate, None}
 use Rattle.serde_json.specs.View.{view}
 use Rattle.pt_drafts.specs.Labels.{part_of}
 use Rattle.pt_drafts.specs.Values.{if_not_null}

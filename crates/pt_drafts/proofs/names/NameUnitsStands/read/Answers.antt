@@ -1,4 +1,4 @@
-use Rattle.std.proofs.Common.{◌∙◌, ◌^◌, ap, sym, refl, map, replicate, Some, arith}
+use Rattle.std.proofs.Common.{◌^◌}
 use Rattle.serde_json.specs.View.{view}
 use Rattle.pt_drafts.specs.Values.{whole_below}
 use Rattle.pt_drafts.proofs.Filling.{few_filled}
