@@ -1,0 +1,41 @@
+-- The names of faults.
+use Rattle.std.specs.Prelude.{ℕ, List, codes}
+use Rattle.pt_drafts.specs.declared.fault.Key.{Key}
+use Rattle.pt_drafts.specs.declared.fault.Key.TheVariants as key
+
+-- a key as it is shown: the name that a text has for it
+abbrev pub key_text : Key → List ℕ
+key_text key.Text = codes "text"
+key_text key.Table = codes "partitiontable"
+key_text key.Unknown = codes "unknown"
+key_text key.Label = codes "label"
+key_text key.Device = codes "device"
+key_text key.Unit = codes "unit"
+key_text key.SectorSize = codes "sectorsize"
+key_text key.Sectors = codes "sectors"
+key_text key.Id = codes "id"
+key_text key.FirstLba = codes "firstlba"
+key_text key.LastLba = codes "lastlba"
+key_text key.Entries = codes "entries"
+key_text key.TableLength = codes "table-length"
+key_text key.Partitions = codes "partitions"
+key_text key.Chain = codes "chain"
+key_text key.Number = codes "number"
+key_text key.Node = codes "node"
+key_text key.Start = codes "start"
+key_text key.Size = codes "size"
+key_text key.Last = codes "last"
+key_text key.Offset = codes "offset"
+key_text key.Type = codes "type"
+key_text key.TypeName = codes "type_name"
+key_text key.Uuid = codes "uuid"
+key_text key.Name = codes "name"
+key_text key.NameUnits = codes "name_units"
+key_text key.Attributes = codes "attributes"
+key_text key.Attrs = codes "attrs"
+key_text key.Bootable = codes "bootable"
+key_text key.Boot = codes "boot"
+key_text key.StartChs = codes "start_chs"
+key_text key.EndChs = codes "end_chs"
+key_text key.Record = codes "record"
+key_text key.Bsd = codes "bsd"

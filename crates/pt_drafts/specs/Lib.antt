@@ -1,0 +1,12 @@
+pub mod Attributes
+pub mod Digits
+pub mod Keys
+pub mod Labels
+pub mod Members
+pub mod Names
+pub mod Parts
+pub mod Pieces
+pub mod Tables
+pub mod Texts
+pub mod Values
+pub mod inner
