@@ -90,6 +90,13 @@ impl Chain {
     }
 
     /// Its sectors.
+    pub fn into_vec(self) -> Vec<u64>
+        ensures { result.items ≡ self }
+    {
+        self.items
+    }
+
+    /// Its sectors, in place.
     pub fn as_slice(&self) -> &[u64]
         ensures { result.now ≡ self.now }
     {
@@ -118,6 +125,13 @@ impl Parts {
     }
 
     /// Its partitions.
+    pub fn into_vec(self) -> Vec<PartDraft>
+        ensures { result.items ≡ self }
+    {
+        self.items
+    }
+
+    /// Its partitions, in place.
     pub fn as_slice(&self) -> &[PartDraft]
         ensures { result.now ≡ self.now }
     {

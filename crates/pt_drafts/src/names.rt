@@ -42,7 +42,7 @@ fn has_zero(text: &[u8]) -> bool
 
 // The name that a text gives.
 #[tactic(auto, unfolding(crate::specs::Names::name_of))]
-fn name(text: &str) -> Option<[u16; NAME_UNITS]>
+fn padded_name(text: &str) -> Option<[u16; NAME_UNITS]>
     ensures { result ≡ name_of text.now }
 {
     if has_zero(text.as_bytes()) {
@@ -60,7 +60,7 @@ impl Stands for NameText {
     ghost stands_for = { by_text name_of };
 
     fn read(value: &Value) -> Option<[u16; NAME_UNITS]> {
-        name(value.as_str()?)
+        padded_name(value.as_str()?)
     }
 }
 

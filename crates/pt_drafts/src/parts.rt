@@ -229,13 +229,13 @@ fn part_with(place: Place, identity: Identity, marks: Marks) -> PartDraft
 
 /// What an object says of a partition, or its first fault.
 #[tactic(auto, unfolding(crate::specs::Parts::part_in))]
-pub(crate) fn part(part: &Value) -> Result<PartDraft, Key>
-    ensures { result ≡ part_in (view part.now) }
+pub(crate) fn part(object: &Value) -> Result<PartDraft, Key>
+    ensures { result ≡ part_in (view object.now) }
 {
-    check(part.is_object(), Key::Partitions)?;
-    check(has_only(part, &PART_NAMES), Key::Unknown)?;
-    let place = place_of(part)?;
-    let identity = identity_of(part)?;
-    let marks = marks_of(part)?;
+    check(object.is_object(), Key::Partitions)?;
+    check(has_only(object, &PART_NAMES), Key::Unknown)?;
+    let place = place_of(object)?;
+    let identity = identity_of(object)?;
+    let marks = marks_of(object)?;
     Ok(part_with(place, identity, marks))
 }
