@@ -2,7 +2,7 @@
 use Rattle.std.proofs.Common.{◌≡◌, ◌<◌, ◌+◌, ◌≤◌, ℕ, List, ◌∷◌, drop, length, get_or, Result, Ok, Err, subst, sym, refl, inl, inr, ap, ◌∙◌}
 use Rattle.std.proofs.lemmas.List.{drop_more, drop_all}
 use Rattle.pt_drafts.specs.declared.draft.PartDraft.{PartDraft}
-use Rattle.pt_drafts.specs.declared.draft.TextFault.{TextFault}
+use Rattle.pt_drafts.specs.declared.fault.TextFault.{TextFault}
 use Rattle.pt_set.specs.Entries.{State}
 use Rattle.pt_set.specs.Tables.{Frame, AreMade, IsMade}
 

@@ -1,3 +1,4 @@
 pub mod Folding
 pub mod Making
 pub mod Numbers
+pub mod Setting

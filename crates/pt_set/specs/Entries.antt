@@ -12,11 +12,11 @@ use Rattle.pt_members.specs.declared.layout.Labelled.{Labelled}
 use Rattle.pt_edit.specs.Entries.{is_slice}
 use Rattle.pt_edit.specs.SliceLabels.{with_new_label}
 use Rattle.pt_edit.specs.declared.space.space.Run.{Run}
-use Rattle.pt_drafts.specs.declared.draft.Key.{Key}
-use Rattle.pt_drafts.specs.declared.draft.Key.TheVariants as key
+use Rattle.pt_drafts.specs.declared.fault.Key.{Key}
+use Rattle.pt_drafts.specs.declared.fault.Key.TheVariants as key
 use Rattle.pt_drafts.specs.declared.draft.NamedType.{NamedType}
 use Rattle.pt_drafts.specs.declared.draft.PartDraft.{PartDraft}
-use Rattle.pt_drafts.specs.declared.draft.TextFault.{TextFault}
+use Rattle.pt_drafts.specs.declared.fault.TextFault.{TextFault}
 use Rattle.pt_set.specs.declared.head.Named.{Named}
 use Rattle.pt_set.specs.Faults.{at}
 use Rattle.pt_set.specs.Heads.{next_named}

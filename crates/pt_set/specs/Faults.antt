@@ -1,7 +1,7 @@
 -- What is at fault in a text, and steps of which each may be at fault.
 use Rattle.std.specs.Prelude.{ℕ, ◌+◌, Bool, Some, None, Result, Ok, Err, if◌then◌else◌}
-use Rattle.pt_drafts.specs.declared.draft.Key.{Key}
-use Rattle.pt_drafts.specs.declared.draft.TextFault.{TextFault}
+use Rattle.pt_drafts.specs.declared.fault.Key.{Key}
+use Rattle.pt_drafts.specs.declared.fault.TextFault.{TextFault}
 
 infixl 10 ◌>>=◌
 abbrev pub ◌>>=◌ : {A B : Type 0} → Result A TextFault → (A → Result B TextFault) → Result B TextFault

@@ -9,8 +9,8 @@ use Rattle.pt_gpt.specs.declared.table.Table.{Table}
 use Rattle.pt_drafts.specs.declared.draft.DiskId.{DiskId}
 use Rattle.pt_drafts.specs.declared.draft.DiskId.TheVariants as id
 use Rattle.pt_drafts.specs.declared.draft.Draft.{Draft}
-use Rattle.pt_drafts.specs.declared.draft.Key.TheVariants as key
-use Rattle.pt_drafts.specs.declared.draft.TextFault.{TextFault}
+use Rattle.pt_drafts.specs.declared.fault.Key.TheVariants as key
+use Rattle.pt_drafts.specs.declared.fault.TextFault.{TextFault}
 use Rattle.pt_set.specs.declared.head.Head.{Head}
 use Rattle.pt_set.specs.declared.head.Named.{Named}
 use Rattle.pt_set.specs.Faults.{◌>>=◌, of, fails_if}

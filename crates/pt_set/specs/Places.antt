@@ -9,9 +9,9 @@ use Rattle.pt_edit.specs.declared.space.space.Run.{Run}
 use Rattle.pt_edit.specs.Space.{Area, Placed, NotPlaced}
 use Rattle.pt_drafts.specs.declared.draft.Extent.{Extent}
 use Rattle.pt_drafts.specs.declared.draft.Extent.TheVariants.{Sectors, Bytes, Last}
-use Rattle.pt_drafts.specs.declared.draft.Key.TheVariants as key
+use Rattle.pt_drafts.specs.declared.fault.Key.TheVariants as key
 use Rattle.pt_drafts.specs.declared.draft.PartDraft.{PartDraft}
-use Rattle.pt_drafts.specs.declared.draft.TextFault.{TextFault}
+use Rattle.pt_drafts.specs.declared.fault.TextFault.{TextFault}
 use Rattle.pt_set.specs.declared.head.Head.{Head}
 use Rattle.pt_set.specs.Faults.{at}
 

@@ -9,9 +9,9 @@ use Rattle.pt_members.specs.declared.layout.Labelled.{Labelled}
 use Rattle.pt_members.specs.declared.layout.Layout.{Layout}
 use Rattle.pt_edit.specs.declared.space.space.Run.{Run}
 use Rattle.pt_drafts.specs.declared.draft.Draft.{Draft}
-use Rattle.pt_drafts.specs.declared.draft.Key.TheVariants as key
+use Rattle.pt_drafts.specs.declared.fault.Key.TheVariants as key
 use Rattle.pt_drafts.specs.declared.draft.PartDraft.{PartDraft}
-use Rattle.pt_drafts.specs.declared.draft.TextFault.{TextFault}
+use Rattle.pt_drafts.specs.declared.fault.TextFault.{TextFault}
 use Rattle.pt_set.specs.declared.entries.Known.{Known}
 use Rattle.pt_set.specs.declared.gpt.Ready.{Ready}
 use Rattle.pt_set.specs.declared.head.Head.{Head}

@@ -217,7 +217,7 @@ fn initial_for<const B: usize>(alloc: Global, basis: &Basis<'_>) -> Result<Made,
 /// The layout that a draft of a GPT makes of a disk with this number of sectors; `old` is the table that is there, with its labels.
 ///
 /// The error is the first fault of the draft, or lack of memory.
-pub fn gpt_for<const B: usize>(
+pub(crate) fn gpt_for<const B: usize>(
     alloc: Global,
     draft: &Draft,
     sectors: u64,

@@ -1,12 +1,17 @@
-//! The layout that a draft of a table makes of a disk, with what the draft leaves out.
+//! What a draft of a table makes of a disk: the layout, with what the draft leaves out, its plan, and a commit of it.
 //!
 //! docs/table.md has what is taken for each name that a text leaves out.
 #![tactic(auto)]
 
+mod disk;
 mod entries;
+mod error;
 mod faults;
 mod gpt;
 mod head;
 mod places;
+mod table;
 
-pub use gpt::gpt_for;
+pub use disk::{commit_draft, plan_draft};
+pub use error::SetError;
+pub use table::table_for;

@@ -1,9 +1,9 @@
 -- What functions have of a state and of a frame, and how they tell a fault.
 use Rattle.std.specs.Prelude.{ℕ}
 use Rattle.std.specs.Option.{option_map}
-use Rattle.pt_drafts.specs.declared.draft.DraftError.{DraftError}
-use Rattle.pt_drafts.specs.declared.draft.DraftError.TheVariants.{Fault, Memory}
-use Rattle.pt_drafts.specs.declared.draft.TextFault.{TextFault}
+use Rattle.pt_drafts.specs.declared.fault.DraftError.{DraftError}
+use Rattle.pt_drafts.specs.declared.fault.DraftError.TheVariants.{Fault, Memory}
+use Rattle.pt_drafts.specs.declared.fault.TextFault.{TextFault}
 use Rattle.pt_set.specs.declared.gpt.Made.{Made}
 use Rattle.pt_set.specs.declared.gpt.Basis.{Basis}
 use Rattle.pt_set.specs.Entries.{State}

@@ -1,6 +1,6 @@
 -- What the partitions that are left make of what is made is what all of them make.
 use Rattle.std.proofs.Common.{◌<◌, ◌^◌, drop, length, Result}
-use Rattle.pt_drafts.specs.declared.draft.TextFault.{TextFault}
+use Rattle.pt_drafts.specs.declared.fault.TextFault.{TextFault}
 use Rattle.pt_set.specs.Entries.{State}
 use Rattle.pt_set.specs.Tables.{AreMade}
 use Rattle.pt_set.specs.inner.Made.{frame_in, state_of}
