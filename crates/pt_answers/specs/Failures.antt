@@ -23,12 +23,20 @@ use Rattle.pt_plan.specs.declared.like_error.LikeError.{LikeError}
 use Rattle.pt_plan.specs.declared.like_error.LikeError.TheVariants as like
 use Rattle.pt_plan.specs.declared.repair_error.RepairError.{RepairError}
 use Rattle.pt_plan.specs.declared.repair_error.RepairError.TheVariants as repair
+use Rattle.pt_drafts.specs.Keys.{key_text}
+use Rattle.pt_drafts.specs.declared.fault.DraftError.{DraftError}
+use Rattle.pt_drafts.specs.declared.fault.DraftError.TheVariants as draft
+use Rattle.pt_drafts.specs.declared.fault.TextFault.{TextFault}
+use Rattle.pt_set.specs.declared.error.SetError.{SetError}
+use Rattle.pt_set.specs.declared.error.SetError.TheVariants as set
 use Rattle.pt_report.specs.Shown.{line}
 use Rattle.pt_report.specs.Replies.{device_line, memory_line, no_side_text, no_table_text}
 use Rattle.pt_answers.specs.declared.failure.Failure.{Failure}
 use Rattle.pt_answers.specs.declared.failure.Failure.TheVariants.{NotText, Usage, InUseAlone, BadWord, BadFresh, BadPath, BadNumber}
 use Rattle.pt_answers.specs.declared.failure.Failure.TheVariants.{BadCopy, Edit, Plan, Check, Repair, PlanText, OtherSize, OtherOpening}
-use Rattle.pt_answers.specs.declared.failure.Failure.TheVariants.{Other, NoTable, NoSide, Opening, Device, ClosedPipe, Memory}
+use Rattle.pt_answers.specs.declared.failure.NoText.{NoText as Unreadable}
+use Rattle.pt_answers.specs.declared.failure.NoText.TheVariants as no_text
+use Rattle.pt_answers.specs.declared.failure.Failure.TheVariants.{Table, NoText, Other, NoTable, NoSide, Opening, Device, ClosedPipe, Memory}
 use Rattle.pt_report.specs.declared.status.Status.{Status}
 use Rattle.pt_report.specs.declared.status.Status.TheVariants as status
 use Rattle.pt_answers.specs.Statuses.{failure_status}
@@ -44,6 +52,20 @@ in_use_alone = codes "error: the argument '--in-use' needs '--device'\n\nFor mor
 -- what refused it, and the number by which it says why
 abbrev pub refusal_line : List ℕ → ℕ → List ℕ
 refusal_line by number = line (codes "refused:" ∷ by ∷ decimal number ∷ [])
+
+-- the first fault of a table's text: its name there, and which object of `partitions` has it
+abbrev pub part_text : Option ℕ → List (List ℕ)
+part_text None = []
+part_text (Some part) = decimal part ∷ []
+
+abbrev pub fault_line : TextFault → List ℕ
+fault_line fault = line (codes "refused: table" ∷ key_text fault.key ∷ part_text fault.part)
+
+-- a table's text that isn't read
+abbrev pub no_text_line : Unreadable → List ℕ
+no_text_line no_text.Unreadable = line (codes "table: device" ∷ [])
+no_text_line no_text.TooLong = line (codes "table: too long" ∷ [])
+no_text_line no_text.NotUtf8 = line (codes "table: not text" ∷ [])
 
 -- of an image that isn't opened
 abbrev pub opening_text : NoDevice → List ℕ
@@ -69,6 +91,8 @@ failure_text (Plan number) = Some (refusal_line (codes "plan") number)
 failure_text (Check number) = Some (refusal_line (codes "check") number)
 failure_text (Repair number) = Some (refusal_line (codes "repair") number)
 failure_text (PlanText number) = Some (refusal_line (codes "plan text") number)
+failure_text (Table fault) = Some (fault_line fault)
+failure_text (NoText why) = Some (no_text_line why)
 failure_text OtherSize = Some (line (codes "refused: other size" ∷ []))
 failure_text (OtherOpening why) = Some (codes "other: " ++ opening_text why)
 failure_text (Other why) = Some (codes "other: " ++ no_table_text why)
@@ -125,6 +149,16 @@ abbrev pub like_failure : LikeError → Failure
 like_failure like.OtherSize = OtherSize
 like_failure (like.Other why) = Other why
 like_failure (like.Disk error) = commit_failure error
+
+-- of a table's text
+abbrev pub draft_failure : DraftError → Failure
+draft_failure (draft.Fault fault) = Table fault
+draft_failure draft.Memory = Memory
+
+-- of a commit of what it says
+abbrev pub set_failure : SetError → Failure
+set_failure (set.Fault fault) = Table fault
+set_failure (set.Disk error) = commit_failure error
 
 -- of a repair
 abbrev pub repair_failure : RepairError → Failure

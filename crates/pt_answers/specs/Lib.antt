@@ -4,6 +4,7 @@ pub mod Forms
 pub mod Images
 pub mod OnDisks
 pub mod Runs
+pub mod Sets
 pub mod Statuses
 pub mod Wanted
 pub mod inner

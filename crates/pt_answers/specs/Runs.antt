@@ -5,7 +5,9 @@ use Rattle.std.specs.Prelude.{String, option_map, string_bytes}
 use Rattle.std.specs.declared.alloc.Global.{Global}
 use Rattle.std.specs.Io.KnownBytes.{Appends, Keeps}
 use Rattle.pt_sector.specs.declared.disk.Disk.{Ghosts}
+use Rattle.pt_drafts.specs.declared.draft.Draft.{Draft}
 use Rattle.pt_gpt.specs.declared.table.Side.{Side}
+use Rattle.pt_guid.specs.declared.guid.Guid.{Guid}
 use Rattle.pt_path.specs.declared.path.Path.{Path}
 use Rattle.pt_apply.specs.Plans.{phases_of}
 use Rattle.pt_disks.specs.declared.device.NoDevice.{NoDevice}
@@ -41,6 +43,7 @@ use Rattle.pt_answers.specs.Images.{Call, Doing, OnImage, OnImages, Sized, Then,
 use Rattle.pt_answers.specs.OnDisks.{AdoptsFrom, AppliesTo, ChecksOn, EditsDisk, FreesOn, LocatesOn, PlansAdopting, PlansOn, RepairsDisk}
 use Rattle.pt_answers.specs.OnDisks.{ShowsAfter, ShowsCopy, ShowsDisk}
 use Rattle.pt_answers.specs.OnDisks.{VerifiesDisk}
+use Rattle.pt_answers.specs.Sets.{PlansSetting, SetsDisk, WithDraft, WithFresh}
 use Rattle.pt_answers.specs.Statuses.{IsOfOutput}
 use Rattle.pt_report.specs.Statuses.{reply_status}
 use Rattle.pt_answers.specs.Wanted.{IsWanted, words_of}
@@ -104,6 +107,25 @@ abbrev pub ShowsAs : {D : _} {T : Type 0} {B : _} → Ghosts D B → (T → Opti
 ShowsAs {D} {T} {B} g remaining opening image after copy form old new answer =
     (found : Result Reply Failure) × RunsShow g remaining opening image after copy old new found × InForm B image form found answer
 
+-- the free blocks of an image, in a form
+abbrev pub FreesAs : {D : _} {T : Type 0} {B : _} → Ghosts D B → List ℕ → Opening → Form → Doing (Call D T)
+FreesAs {D} {T} {B} g image opening form old new answer =
+    (found : Result Reply Failure) × OnImage image opening Read (FreesOn g) old new found × InForm B image form found answer
+
+-- the table of a draft is written, or planned to be
+abbrev pub RunsSet : {D : _} {T : Type 0} {B : _} → Ghosts D B → List ℕ → Opening → Adoption → PrimaryCopy → LockedBy → Draft → List Guid
+    → Doing (Call D T)
+RunsSet g image opening Written primary locked_by draft fresh old new answer =
+    OnImage image opening (writing locked_by) (SetsDisk (choice_of primary) g draft fresh) old new answer
+RunsSet g image opening Planned primary locked_by draft fresh old new answer =
+    OnImage image opening Read (PlansSetting (choice_of primary) g draft fresh) old new answer
+
+-- the fresh GUIDs and the text are read before the image is opened
+abbrev pub SetsTable : {D : _} {T : Type 0} {B : _} → Ghosts D B → (T → Option (List ℕ)) → Opening → List ℕ → List ℕ → Option (List ℕ)
+    → Adoption → PrimaryCopy → LockedBy → Doing (Call D T)
+SetsTable g remaining opening image table fresh adoption primary locked_by old new answer = WithFresh fresh
+    (λ guids. WithDraft remaining table (λ draft. RunsSet g image opening adoption primary locked_by draft guids)) old new answer
+
 -- what is done for a job: `g` are the ghosts of the disks, and `remaining` the bytes of the file of a plan
 abbrev pub RunsJob : {D : _} {T : Type 0} {B : _} → Ghosts D B → (T → Option (List ℕ)) → Opening → Job → Doing (Call D T)
 RunsJob g remaining opening (job.Help text) old new answer = (new ≡ old) × (answer ≡ Ok (reply.Text text))
@@ -113,8 +135,7 @@ RunsJob g remaining opening (job.Verify image) old new answer =
     OnImage (string_bytes image) opening Read (VerifiesDisk g) old new answer
 RunsJob g remaining opening (job.Locate image path place) old new answer = WithPlace (string_bytes path) (string_bytes place)
     (λ p k. OnImage (string_bytes image) opening Read (LocatesOn g p k)) old new answer
-RunsJob g remaining opening (job.Free image) old new answer =
-    OnImage (string_bytes image) opening Read (FreesOn g) old new answer
+RunsJob g remaining opening (job.Free image form) old new answer = FreesAs g (string_bytes image) opening form old new answer
 RunsJob g remaining opening job.Types old new answer = (new ≡ old) × IsTypes answer
 RunsJob g remaining opening (job.Edit image fresh words primary locked_by) old new answer =
     WithWords (option_map string_bytes fresh) (map string_bytes words.items)
@@ -131,6 +152,9 @@ RunsJob g remaining opening (job.Repair image primary locked_by) old new answer 
     OnImage (string_bytes image) opening (writing locked_by) (RepairsDisk (choice_of primary) g) old new answer
 RunsJob g remaining opening (job.Adopt image other medium adoption primary locked_by) old new answer =
     RunsAdoption g (string_bytes image) opening (string_bytes other) medium adoption primary locked_by old new answer
+RunsJob g remaining opening (job.Set image table fresh adoption primary locked_by) old new answer =
+    SetsTable g remaining opening (string_bytes image) (string_bytes table) (option_map string_bytes fresh) adoption primary locked_by old new
+    answer
 
 -- ## The size of a sector.
 
@@ -139,7 +163,7 @@ image_of (job.Help text) = None
 image_of (job.Show image after copy form) = Some (string_bytes image)
 image_of (job.Verify image) = Some (string_bytes image)
 image_of (job.Locate image path place) = Some (string_bytes image)
-image_of (job.Free image) = Some (string_bytes image)
+image_of (job.Free image form) = Some (string_bytes image)
 image_of job.Types = None
 image_of (job.Edit image fresh words primary locked_by) = Some (string_bytes image)
 image_of (job.Plan image fresh words primary) = Some (string_bytes image)
@@ -147,6 +171,7 @@ image_of (job.Check image file) = Some (string_bytes image)
 image_of (job.Apply image file locked_by) = Some (string_bytes image)
 image_of (job.Repair image primary locked_by) = Some (string_bytes image)
 image_of (job.Adopt image other medium adoption primary locked_by) = Some (string_bytes image)
+image_of (job.Set image table fresh adoption primary locked_by) = Some (string_bytes image)
 
 -- that of a device which has sectors of so many bytes: another one than 512 and 4096 is refused where the device is opened, as is one
 -- that isn't known

@@ -7,6 +7,8 @@ use Rattle.pt_recover.specs.declared.side.SideError.{SideError}
 use Rattle.pt_recover.specs.declared.side.SideError.TheVariants as of_side
 use Rattle.pt_answers.specs.declared.failure.Failure.{Failure}
 use Rattle.pt_answers.specs.declared.failure.Failure.TheVariants as failure
+use Rattle.pt_answers.specs.declared.failure.NoText.{NoText as Unreadable}
+use Rattle.pt_answers.specs.declared.failure.NoText.TheVariants as no_text
 use Rattle.pt_report.specs.declared.status.Status.{Status}
 use Rattle.pt_report.specs.declared.status.Status.TheVariants.{Usage, Refused, NoTable, Device, Memory}
 use Rattle.pt_answers.specs.declared.failure.Failure.TheVariants.{ClosedPipe}
@@ -34,6 +36,12 @@ opening_status opening.Locked = Refused
 opening_status (opening.InUse by) = Refused
 opening_status opening.Memory = Memory
 
+-- of a table's text that isn't read
+abbrev pub text_status : Unreadable → Status
+text_status no_text.Unreadable = Device
+text_status no_text.TooLong = Usage
+text_status no_text.NotUtf8 = Usage
+
 abbrev pub failure_status : Failure → Status
 failure_status failure.NotText = Usage
 failure_status (failure.Usage error) = Usage
@@ -48,6 +56,8 @@ failure_status (failure.Plan number) = Refused
 failure_status (failure.Check number) = Refused
 failure_status (failure.Repair number) = Refused
 failure_status (failure.PlanText number) = Refused
+failure_status (failure.Table fault) = Refused
+failure_status (failure.NoText why) = text_status why
 failure_status failure.OtherSize = Refused
 failure_status (failure.OtherOpening why) = opening_status why
 failure_status (failure.Other why) = reason_status why

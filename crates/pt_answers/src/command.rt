@@ -1,26 +1,30 @@
 //! A run of the command: a line of words, what it opens, an output stream, and an exit status.
 
-ghost use Rattle.std.specs.Prelude.{◌≡◌, [], option_map, Ok, OnOk};
+ghost use Rattle.std.specs.Prelude.{◌≡◌, [], option_map, string_bytes, Ok, OnOk};
 ghost use Rattle.std.specs.Io.Buffered.{writer_buffer, writer_contents};
 ghost use Rattle.clap.specs.Walk.{texts as slice_texts};
 ghost use Rattle.pt_sector.specs.Sectors.{IsSectorSize};
 ghost use Rattle.pt_answers.specs.Images.{IsPlanAt};
-ghost use Rattle.pt_answers.specs.Runs.{Prints, RunsAdoption, RunsJob, RunsLine, RunsShow, RunsSized, RunsWords, ShowsAs, Sizes};
+ghost use Rattle.pt_answers.specs.Runs.{FreesAs, Prints, RunsAdoption, RunsJob, RunsSet, SetsTable, RunsLine, RunsShow, RunsSized, RunsWords, ShowsAs, Sizes};
+ghost use Rattle.pt_answers.specs.Sets.{IsDraftAt};
 ghost use Rattle.pt_answers.specs.Runs.{image_of, other_as, size_of_device};
 
-use crate::failure::Failure;
+use crate::failure::{Failure, NoText};
 use crate::forms::{formed, types};
 use crate::images::{Images, Opening};
 use crate::on_images::{
-    apply, check, edit, free, locate, plan, plan_taking, repair, show, show_planned, show_side,
-    take, verify,
+    apply, check, edit, free, locate, plan, plan_set, plan_taking, repair, set, show, show_planned,
+    show_side, take, verify,
 };
 use crate::plan_file::plan_in;
 use crate::status::printed;
+use crate::table_file::draft_at;
 use crate::views::{copy_named, place_named};
-use crate::words::Wanted;
+use crate::words::{Wanted, guids_of};
 use pt_apply::Plan;
 use pt_disks::NoDevice;
+use pt_drafts::Draft;
+use pt_guid::Guid;
 use pt_line::{
     Adoption, Form, InUse, Job, Line, LockedBy, Medium, PrimaryCopy, SectorSize, read_line,
 };
@@ -65,6 +69,90 @@ fn adopt<const B: usize, D: Disk<B> + Drop, T: Read + Drop, I: Images<B, D, T>>(
         ),
         Adoption::Planned => plan_taking(alloc, images, image, opening, other, there, primary),
     }
+}
+
+/// The draft in a table's file.
+fn draft_in<const B: usize, D: Disk<B> + Drop, T: Read + Drop, I: Images<B, D, T>>(
+    alloc: Global,
+    images: &mut I,
+    path: &str,
+) -> Result<Draft, Failure>
+    ensures { IsDraftAt T.remaining path.now (I.past images.old) (I.past images.new) result }
+{
+    match images.open_table(path) {
+        Ok(file) => draft_at::<T>(alloc, file),
+        Err(_) => Err(Failure::NoText(NoText::Unreadable)),
+    }
+}
+
+/// What is done with the table that a text says: it is written, or planned.
+fn set_as<const B: usize, D: Disk<B> + Drop, T: Read + Drop, I: Images<B, D, T>>(
+    alloc: Global,
+    images: &mut I,
+    image: &str,
+    opening: Opening,
+    draft: &Draft,
+    fresh: &[Guid],
+    adoption: Adoption,
+    primary: PrimaryCopy,
+    locked_by: LockedBy,
+) -> Result<Reply, Failure>
+    requires { IsSectorSize B }
+    ensures { RunsSet D.Disk image.now opening adoption primary locked_by draft.now fresh.now
+        (I.past images.old) (I.past images.new) result }
+{
+    match adoption {
+        Adoption::Written => set(
+            alloc, images, image, opening, locked_by, draft, fresh, primary,
+        ),
+        Adoption::Planned => plan_set(alloc, images, image, opening, draft, fresh, primary),
+    }
+}
+
+/// What the table of a text comes to. The fresh GUIDs and the text are read before the image is opened.
+fn set_table<const B: usize, D: Disk<B> + Drop, T: Read + Drop, I: Images<B, D, T>>(
+    alloc: Global,
+    images: &mut I,
+    image: &str,
+    opening: Opening,
+    table: &str,
+    fresh: &Option<String>,
+    adoption: Adoption,
+    primary: PrimaryCopy,
+    locked_by: LockedBy,
+) -> Result<Reply, Failure>
+    requires { IsSectorSize B }
+    ensures { SetsTable D.Disk T.remaining opening image.now table.now (option_map string_bytes fresh.now) adoption primary locked_by
+        (I.past images.old) (I.past images.new) result }
+{
+    let guids = guids_of(alloc, fresh)?;
+    let draft = draft_in(alloc, images, table)?;
+    set_as(
+        alloc,
+        images,
+        image,
+        opening,
+        &draft,
+        guids.as_slice(),
+        adoption,
+        primary,
+        locked_by,
+    )
+}
+
+/// The free blocks of an image, in the form that is asked for.
+fn free_as<const B: usize, D: Disk<B> + Drop, T: Read + Drop, I: Images<B, D, T>>(
+    alloc: Global,
+    images: &mut I,
+    image: &str,
+    opening: Opening,
+    form: Form,
+) -> Result<Reply, Failure>
+    requires { IsSectorSize B }
+    ensures { FreesAs D.Disk image.now opening form (I.past images.old) (I.past images.new) result }
+{
+    let found = free(alloc, images, image, opening);
+    formed::<B>(alloc, image, form, found)
 }
 
 /// What a look at an image comes to: at its table, at the one that the plan in a file would leave, or at one copy of a GPT.
@@ -134,7 +222,7 @@ fn reply_to<const B: usize, D: Disk<B> + Drop, T: Read + Drop, I: Images<B, D, T
             let (path, k) = place_named(path.as_str(), place.as_str())?;
             locate(alloc, images, image.as_str(), opening, &path, k)
         }
-        Job::Free { image } => free(alloc, images, image.as_str(), opening),
+        Job::Free { image, form } => free_as(alloc, images, image.as_str(), opening, form),
         Job::Types => types(alloc),
         Job::Edit {
             image,
@@ -180,6 +268,24 @@ fn reply_to<const B: usize, D: Disk<B> + Drop, T: Read + Drop, I: Images<B, D, T
             primary,
             locked_by,
         } => repair(alloc, images, image.as_str(), opening, primary, locked_by),
+        Job::Set {
+            image,
+            table,
+            fresh,
+            adoption,
+            primary,
+            locked_by,
+        } => set_table(
+            alloc,
+            images,
+            image.as_str(),
+            opening,
+            table.as_str(),
+            &fresh,
+            adoption,
+            primary,
+            locked_by,
+        ),
         Job::Adopt {
             image,
             other,
@@ -220,13 +326,14 @@ fn image_in(job: &Job) -> Option<&str>
         Job::Show { image, .. }
         | Job::Verify { image }
         | Job::Locate { image, .. }
-        | Job::Free { image }
+        | Job::Free { image, .. }
         | Job::Edit { image, .. }
         | Job::Plan { image, .. }
         | Job::Check { image, .. }
         | Job::Apply { image, .. }
         | Job::Repair { image, .. }
-        | Job::Adopt { image, .. } => Some(image.as_str()),
+        | Job::Adopt { image, .. }
+        | Job::Set { image, .. } => Some(image.as_str()),
     }
 }
 

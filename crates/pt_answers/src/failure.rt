@@ -3,11 +3,12 @@
 ghost use Rattle.std.specs.Prelude.{◌≡◌, ◌++◌, codes, IfSome, OnOk};
 ghost use Rattle.std.specs.Io.KnownBytes.{Appends};
 ghost use Rattle.std.specs.IoError.{error_kind};
-ghost use Rattle.pt_answers.specs.Failures.{IsTold, failure_text, opening_text, output_failure, refusal_line};
+ghost use Rattle.pt_answers.specs.Failures.{IsTold, failure_text, fault_line, no_text_line, opening_text, output_failure, refusal_line};
 ghost use Rattle.pt_report.specs.Replies.{no_table_text};
-ghost use Rattle.pt_answers.specs.Statuses.{failure_status, opening_status as status_of_opening, reason_status, side_status};
+ghost use Rattle.pt_answers.specs.Statuses.{failure_status, opening_status as status_of_opening, reason_status, side_status, text_status};
 
 use pt_disks::NoDevice;
+use pt_drafts::TextFault;
 use pt_gpt::Side;
 use pt_layout::{NoTable, SideError};
 use pt_report::{Status, print_no_side, print_no_table};
@@ -39,6 +40,10 @@ pub enum Failure {
     Repair(u8),
     /// A text is no plan's: its first bad line, counted from 1; 0 where it is too long or no UTF-8.
     PlanText(u64),
+    /// The first fault of a table's text.
+    Table(TextFault),
+    /// A table's text isn't read.
+    NoText(NoText),
     /// The image whose table is to be taken has another number of sectors.
     OtherSize,
     /// Why that image isn't opened.
@@ -54,6 +59,17 @@ pub enum Failure {
     /// Nobody reads the output any more: there is no line, since that is nobody's fault.
     ClosedPipe,
     Memory,
+}
+
+/// Why the text of a table isn't read.
+#[derive(Clone, Copy, Debug, PartialEq, Eq)]
+pub enum NoText {
+    /// Its file can't be opened or read.
+    Unreadable,
+    /// It has more than 8 MiB.
+    TooLong,
+    /// It isn't UTF-8.
+    NotUtf8,
 }
 
 /// What is printed where an argument isn't UTF-8, in the form of `clap`'s texts.
@@ -92,7 +108,9 @@ impl Failure {
             | Failure::Check(_)
             | Failure::Repair(_)
             | Failure::PlanText(_)
+            | Failure::Table(_)
             | Failure::OtherSize => Status::Refused,
+            Failure::NoText(why) => status_of_text(*why),
             Failure::NoTable(why) | Failure::Other(why) => status_of(*why),
             Failure::NoSide(_, why) => status_of_side(*why),
             Failure::Opening(why) | Failure::OtherOpening(why) => opening_status(why),
@@ -130,6 +148,8 @@ impl Failure {
             Failure::Check(number) => print_refusal(err, "check", u64::from(*number)),
             Failure::Repair(number) => print_refusal(err, "repair", u64::from(*number)),
             Failure::PlanText(line) => print_refusal(err, "plan text", *line),
+            Failure::Table(fault) => print_fault(err, *fault),
+            Failure::NoText(why) => print_no_text(err, *why),
             Failure::OtherSize => err.write_all(b"refused: other size\n"),
             Failure::OtherOpening(why) => print_other_opening(err, why),
             Failure::Other(why) => print_other(err, *why),
@@ -162,6 +182,16 @@ fn status_of_side(why: SideError) -> Status
         SideError::Device(_) => Status::Device,
         SideError::Memory => Status::Memory,
         _ => Status::NoTable,
+    }
+}
+
+// The status that goes with a text that isn't read.
+fn status_of_text(why: NoText) -> Status
+    ensures { result ≡ text_status why }
+{
+    match why {
+        NoText::Unreadable => Status::Device,
+        NoText::TooLong | NoText::NotUtf8 => Status::Usage,
     }
 }
 
@@ -204,6 +234,27 @@ fn print_other<E: Write>(err: &mut E, why: NoTable) -> io::Result<()>
 {
     err.write_all(b"other: ")?;
     print_no_table(err, why)
+}
+
+// The first fault of a table's text: its name there, and which object of `partitions` has it.
+fn print_fault<E: Write>(err: &mut E, fault: TextFault) -> io::Result<()>
+    ensures { OnOk result (Appends (E.contents err.old) (E.contents err.new) (fault_line fault)) }
+{
+    match fault.part {
+        Some(part) => writeln!(err, "refused: table {} {part}", fault.key),
+        None => writeln!(err, "refused: table {}", fault.key),
+    }
+}
+
+// Why the text of a table isn't read.
+fn print_no_text<E: Write>(err: &mut E, why: NoText) -> io::Result<()>
+    ensures { OnOk result (Appends (E.contents err.old) (E.contents err.new) (no_text_line why)) }
+{
+    err.write_all(match why {
+        NoText::Unreadable => b"table: device\n".as_slice(),
+        NoText::TooLong => b"table: too long\n".as_slice(),
+        NoText::NotUtf8 => b"table: not text\n".as_slice(),
+    })
 }
 
 // What refused it, and the number by which it says why.

@@ -1,16 +1,18 @@
 //! What the library's errors come to.
 
 ghost use Rattle.std.specs.Prelude.{◌≡◌};
-ghost use Rattle.pt_answers.specs.Failures.{as_device as device_error, commit_failure, like_failure, line_failure, repair_failure};
+ghost use Rattle.pt_answers.specs.Failures.{as_device as device_error, commit_failure, draft_failure, like_failure, line_failure, repair_failure, set_failure};
 ghost use Rattle.pt_answers.specs.Failures.{unchecked_failure, unread_failure};
 ghost use Rattle.pt_answers.specs.declared.failure.Failure.TheVariants as failure;
 
 use crate::failure::Failure;
 use pt_check::CheckError;
 use pt_disks::{NoDevice, OpenError};
+use pt_drafts::DraftError;
 use pt_layout::{NoTable, VerifyError};
 use pt_line::LineError;
 use pt_plan::{CommitError, LikeError, RepairError};
+use pt_set::SetError;
 use std::alloc::AllocError;
 
 impl From<LineError> for Failure {
@@ -113,6 +115,28 @@ impl From<LikeError> for Failure {
             LikeError::OtherSize => Failure::OtherSize,
             LikeError::Other(why) => Failure::Other(why),
             LikeError::Disk(error) => Failure::from(error),
+        }
+    }
+}
+
+impl From<DraftError> for Failure {
+    ghost from_gives = { λ error f. f ≡ draft_failure error };
+
+    fn from(error: DraftError) -> Failure {
+        match error {
+            DraftError::Fault(fault) => Failure::Table(fault),
+            DraftError::Memory => Failure::Memory,
+        }
+    }
+}
+
+impl From<SetError> for Failure {
+    ghost from_gives = { λ error f. f ≡ set_failure error };
+
+    fn from(error: SetError) -> Failure {
+        match error {
+            SetError::Fault(fault) => Failure::Table(fault),
+            SetError::Disk(error) => Failure::from(error),
         }
     }
 }

@@ -2,7 +2,7 @@
 
 ghost use Rattle.std.specs.Prelude.{◌≡◌, ◌∷◌, List};
 ghost use Rattle.pt_sector.specs.Sectors.{IsSectorSize};
-ghost use Rattle.pt_answers.specs.Images.{Call, Closed, Opened, PlanOpened, Sized};
+ghost use Rattle.pt_answers.specs.Images.{Call, Closed, Opened, PlanOpened, Sized, TableOpened};
 
 use pt_disks::{Access, NoDevice, OpenError};
 use pt_line::{InUse, Medium};
@@ -16,7 +16,7 @@ pub struct Opening {
     pub in_use: InUse,
 }
 
-/// Opens images as disks with sectors of `B` bytes, and the files of plans.
+/// Opens images as disks with sectors of `B` bytes, and the files of plans and of tables.
 ///
 /// A clause knows its calls, the newest first, so that a run says which images it opened, for what, and how it left them.
 pub trait Images<const B: usize, D: Disk<B> + Drop, T: Read + Drop> {
@@ -39,4 +39,8 @@ pub trait Images<const B: usize, D: Disk<B> + Drop, T: Read + Drop> {
     /// Opens the file of a plan, a plain one, for reading.
     fn open_plan(&mut self, path: &str) -> Result<T, OpenError>
         ensures { past self.new ≡ PlanOpened path.now result ∷ past self.old };
+
+    /// Opens the file of a table's text, or a pipe, for reading; standard input, where the path is `-`.
+    fn open_table(&mut self, path: &str) -> Result<T, OpenError>
+        ensures { past self.new ≡ TableOpened path.now result ∷ past self.old };
 }

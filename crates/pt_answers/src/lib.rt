@@ -14,19 +14,22 @@ mod plan_file;
 mod plan_texts;
 mod plans;
 mod repair;
+mod set;
 mod status;
+mod table_file;
 mod views;
 mod words;
 
 pub use adopt::{adopt_disk, plan_adopting};
 pub use command::run;
 pub use edits::{edit_disk, plan_on};
-pub use failure::Failure;
+pub use failure::{Failure, NoText};
 pub use from_errors::as_device;
 pub use images::{Images, Opening};
 pub use plans::{apply_disk, check_on};
 pub use pt_report::Status;
 pub use repair::repair_disk;
+pub use set::{plan_setting, set_disk};
 pub use status::printed;
 pub use views::{
     copy_named, free_on, locate_on, place_named, show_after, show_copy, show_disk, verify_disk,

@@ -9,6 +9,7 @@ ghost use Rattle.pt_answers.specs.OnDisks.{AdoptsFrom, AppliesTo, ChecksOn, Edit
 ghost use Rattle.pt_answers.specs.OnDisks.{PlansAdopting, PlansOn, RepairsDisk};
 ghost use Rattle.pt_answers.specs.OnDisks.{ShowsAfter, ShowsCopy, ShowsDisk, VerifiesDisk};
 ghost use Rattle.pt_answers.specs.Runs.{choice_of, writing};
+ghost use Rattle.pt_answers.specs.Sets.{PlansSetting, SetsDisk};
 ghost use Rattle.pt_answers.specs.Wanted.{words_of};
 
 use crate::adopt::{adopt_disk, plan_adopting};
@@ -17,11 +18,14 @@ use crate::failure::Failure;
 use crate::images::{Images, Opening};
 use crate::plans::{apply_disk, check_on};
 use crate::repair::repair_disk;
+use crate::set::{plan_setting, set_disk};
 use crate::views::{free_on, locate_on, show_after, show_copy, show_disk, verify_disk};
 use crate::words::Wanted;
 use pt_apply::Plan;
 use pt_disks::Access;
+use pt_drafts::Draft;
 use pt_gpt::Side;
+use pt_guid::Guid;
 use pt_layout::Path;
 use pt_line::{LockedBy, PrimaryCopy};
 use pt_plan::Primary;
@@ -259,6 +263,47 @@ pub(crate) fn repair<const B: usize, D: Disk<B> + Drop, T: Read + Drop, I: Image
 {
     let mut disk = images.open(image, opening, access_for(locked_by))?;
     let answer = repair_disk::<B, D>(alloc, &mut disk, primary_of(primary));
+    images.close(disk);
+    answer
+}
+
+/// The image takes the table of a draft.
+pub(crate) fn set<const B: usize, D: Disk<B> + Drop, T: Read + Drop, I: Images<B, D, T>>(
+    alloc: Global,
+    images: &mut I,
+    image: &str,
+    opening: Opening,
+    locked_by: LockedBy,
+    draft: &Draft,
+    fresh: &[Guid],
+    primary: PrimaryCopy,
+) -> Result<Reply, Failure>
+    requires { IsSectorSize B }
+    ensures { OnImage image.now opening (writing locked_by) (SetsDisk (choice_of primary) D.Disk draft.now fresh.now)
+        (I.past images.old) (I.past images.new) result }
+{
+    let mut disk = images.open(image, opening, access_for(locked_by))?;
+    let answer = set_disk::<B, D>(alloc, &mut disk, draft, fresh, primary_of(primary));
+    images.close(disk);
+    answer
+}
+
+/// The plan for that, as text.
+pub(crate) fn plan_set<const B: usize, D: Disk<B> + Drop, T: Read + Drop, I: Images<B, D, T>>(
+    alloc: Global,
+    images: &mut I,
+    image: &str,
+    opening: Opening,
+    draft: &Draft,
+    fresh: &[Guid],
+    primary: PrimaryCopy,
+) -> Result<Reply, Failure>
+    requires { IsSectorSize B }
+    ensures { OnImage image.now opening Reading (PlansSetting (choice_of primary) D.Disk draft.now fresh.now)
+        (I.past images.old) (I.past images.new) result }
+{
+    let mut disk = images.open(image, opening, Access::Read)?;
+    let answer = plan_setting::<B, D>(alloc, &mut disk, draft, fresh, primary_of(primary));
     images.close(disk);
     answer
 }

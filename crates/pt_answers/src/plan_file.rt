@@ -12,10 +12,10 @@ use std::alloc::Global;
 use std::io::{ErrorKind, Read};
 
 /// The most bytes that a plan's text may have, 8 MiB.
-const MOST: usize = 8_388_608;
+pub(crate) const MOST: usize = 8_388_608;
 
 /// The bytes that a reader begins with, one more than a plan's text may have at most.
-fn first_bytes<T: Read + Drop>(alloc: Global, reader: T) -> Result<Vec<u8>, Failure>
+pub(crate) fn first_bytes<T: Read + Drop>(alloc: Global, reader: T) -> Result<Vec<u8>, Failure>
     ensures ok { IfOk result (λ bytes. IfSome (T.remaining reader) (λ all. bytes.items ≡ take (MOST + 1) all)) }
     ensures err { IfErr result IsUnreadable }
 {

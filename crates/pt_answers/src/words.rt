@@ -33,7 +33,7 @@ impl Wanted {
 }
 
 /// The GUIDs of a text, none where there is no text.
-fn guids_of(alloc: Global, text: &Option<String>) -> Result<Vec<Guid>, Failure>
+pub(crate) fn guids_of(alloc: Global, text: &Option<String>) -> Result<Vec<Guid>, Failure>
     ensures ok { IfOk result (λ guids. AreGiven (option_map string_bytes text.now) guids.items) }
     ensures err { IfErr result (IsNotGivenOr (option_map string_bytes text.now)) }
 {

@@ -14,5 +14,5 @@ mod uses;
 pub use device::{InUse, NoDevice, device_sector_size};
 pub use file_disk::{FileDisk, StoreDisk};
 pub use mem_store::MemStore;
-pub use open::{Access, OpenError, open_plain};
+pub use open::{Access, OpenError, open_plain, open_readable};
 pub use store::Store;

@@ -2,7 +2,7 @@
 
 ghost use Rattle.std.specs.Prelude.{◌≡◌, IfErr, Some};
 ghost use Rattle.pt_disks.specs.declared.open.Access.TheVariants.{Write};
-ghost use Rattle.pt_disks.specs.declared.open.OpenError.TheVariants.{Locked};
+ghost use Rattle.pt_disks.specs.declared.open.OpenError.TheVariants.{Locked, NoFile};
 ghost use Rattle.pt_disks.specs.Sentences.{open_error_sentence};
 
 use std::error::Error;
@@ -61,6 +61,18 @@ pub fn open_plain<R: Files<File = File>>(
     how.read(true).write(access != Access::Read);
     match rt.open_file(&how, path) {
         Ok(file) if access == Access::Write => locked(file),
+        Ok(file) => Ok(file),
+        Err(_) => Err(OpenError::NoFile),
+    }
+}
+
+/// Opens what can be read, be it a plain file, a pipe or a terminal.
+pub fn open_readable<R: Files<File = File>>(rt: &R, path: &str) -> Result<File, OpenError>
+    ensures { IfErr result (λ e. e ≡ NoFile) }
+{
+    let mut how = OpenOptions::new();
+    how.read(true);
+    match rt.open_file(&how, path) {
         Ok(file) => Ok(file),
         Err(_) => Err(OpenError::NoFile),
     }

@@ -5,9 +5,23 @@ ghost use Rattle.pt_sector.specs.Sectors.{IsSectorSize};
 
 use crate::past::Past;
 use pt_answers::{Images, Opening, as_device};
-use pt_disks::{Access, FileDisk, NoDevice, OpenError, Store, device_sector_size, open_plain};
+use pt_disks::{
+    Access, FileDisk, NoDevice, OpenError, Store, device_sector_size, open_plain, open_readable,
+};
 use pt_line::{InUse, Medium};
 use std::fs::{File, Files};
+
+/// What stands for standard input.
+const STANDARD_INPUT: &str = "-";
+
+// Where the file with this name is.
+fn place_of(name: &str) -> &str {
+    if name == STANDARD_INPUT {
+        "/dev/stdin"
+    } else {
+        name
+    }
+}
 
 /// Opens images as disks with sectors of `B` bytes: plain files, or block devices where the line says so.
 #[derive(Drop)]
@@ -70,6 +84,12 @@ impl<'a, const B: usize, R: Files<File = File> + AllocGlobal> Images<B, FileDisk
 
     fn close(&mut self, disk: FileDisk<B>) {
         self.past = self.past.closed(&disk);
+    }
+
+    fn open_table(&mut self, path: &str) -> Result<File, OpenError> {
+        let opened = open_readable(self.rt, place_of(path));
+        self.past = self.past.table_opened(path, &opened);
+        opened
     }
 
     fn open_plan(&mut self, path: &str) -> Result<File, OpenError> {

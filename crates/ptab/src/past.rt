@@ -3,7 +3,7 @@
 ghost use Rattle.std.specs.Prelude.{◌≡◌, List, [], ◌∷◌};
 ghost use Rattle.std.specs.Borrow.{ftrue};
 ghost use Rattle.std.specs.declared.fs.File.{File as FileValue};
-ghost use Rattle.pt_answers.specs.Images.{Call, Closed, Opened, PlanOpened, Sized};
+ghost use Rattle.pt_answers.specs.Images.{Call, Closed, Opened, PlanOpened, Sized, TableOpened};
 
 use pt_answers::Opening;
 use pt_disks::{Access, NoDevice, OpenError};
@@ -61,6 +61,13 @@ impl<D> Past<D> {
         ensures { result.calls ≡ Closed disk.now ∷ self.now.calls }
     {
         Past::of(&(self, disk))
+    }
+
+    #[tactic(auto, using(crate::proofs::Lifetimes::of_found))]
+    pub fn table_opened(&self, path: &str, opened: &Result<File, OpenError>) -> Past<D>
+        ensures { result.calls ≡ TableOpened path.now opened.now ∷ self.now.calls }
+    {
+        Past::of(&(self, path, opened))
     }
 
     #[tactic(auto, using(crate::proofs::Lifetimes::of_found))]

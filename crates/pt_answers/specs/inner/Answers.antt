@@ -1,9 +1,10 @@
 -- What each subcommand answers, by what the library's call gave.
-use Rattle.std.specs.Prelude.{◌≡◌, ◌<◌, ◌⊎◌, ℕ, List, Result, Ok, Err, IsUtf8, length}
+use Rattle.std.specs.Prelude.{◌≡◌, ◌<◌, ◌≤◌, ◌⊎◌, ℕ, List, Result, Ok, Err, IsUtf8, length}
 use Rattle.pt_sector.specs.Sectors.{Writes}
 use Rattle.pt_report.specs.declared.reply.Reply.{Reply}
 use Rattle.pt_answers.specs.declared.failure.Failure.{Failure}
 use Rattle.pt_answers.specs.declared.failure.Failure.TheVariants as failure
+use Rattle.pt_answers.specs.declared.failure.NoText.TheVariants.{TooLong, NotUtf8}
 use Rattle.pt_answers.specs.Answers.{IsTextOf}
 use Rattle.pt_answers.specs.Images.{most_text}
 
@@ -15,6 +16,11 @@ IsTextOrMemory b phases (Err told) = told ≡ failure.Memory
 -- why a file can't be read
 abbrev pub IsUnreadable : Failure → Type 0
 IsUnreadable why = (why ≡ failure.Device) ⊎ (why ≡ failure.Memory)
+
+-- bytes that are too many for a table's text, or no UTF-8
+abbrev pub IsNoTable : List ℕ → Failure → Type 0
+IsNoTable bytes why = ((why ≡ failure.NoText TooLong) × (most_text < length bytes))
+    ⊎ ((why ≡ failure.NoText NotUtf8) × (length bytes ≤ most_text) × ¬ IsUtf8 bytes)
 
 -- bytes that are too many, or no UTF-8
 abbrev pub IsNoText : List ℕ → Failure → Type 0
