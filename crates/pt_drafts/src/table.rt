@@ -1,7 +1,6 @@
 //! What a table says.
 
 ghost use Rattle.std.specs.Prelude.{◌≡◌, IfOk, IfErr, None, Ok, [], codes, map};
-ghost use Rattle.std.specs.Option.{option_map};
 ghost use Rattle.serde_json.specs.Find.{get};
 ghost use Rattle.serde_json.specs.View.{view};
 ghost use Rattle.pt_drafts.specs.Members.{given};
