@@ -1,5 +1,6 @@
 -- Names of entries.
-use Rattle.std.specs.Prelude.{ℕ, List, ◌++◌, ◌-◌, ◌==◌, ◌&&◌, not, Option, Some, None, if◌then◌else◌, nat_le, length, replicate, flat_map, option_map}
+use Rattle.std.specs.Prelude.{ℕ, List, ◌++◌, ◌-◌, ◌==◌, ◌&&◌, not, Option, Some, None, if◌then◌else◌, nat_le, length, replicate, flat_map}
+use Rattle.std.specs.Prelude.{option_map}
 use Rattle.std.specs.Prelude.{Bool, ◌^◌}
 use Rattle.std.specs.Char.Escape.{encode_utf16}
 use Rattle.std.specs.List.{list_any}

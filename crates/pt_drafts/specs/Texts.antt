@@ -1,5 +1,6 @@
 -- What texts stand for.
-use Rattle.std.specs.Prelude.{ℕ, List, Bool, false, ◌*◌, ◌^◌, ◌&&◌, ◌||◌, Option, Some, None, if◌then◌else◌, nat_le, length, codes, bytes_eq}
+use Rattle.std.specs.Prelude.{ℕ, List, Bool, false, ◌*◌, ◌^◌, ◌&&◌, ◌||◌, Option, Some, None, if◌then◌else◌, nat_le, length, codes}
+use Rattle.std.specs.Prelude.{bytes_eq}
 use Rattle.std.specs.Prelude.{option_map, option_and_then, is_some, unwrap_or}
 use Rattle.std.specs.Char.{is_ascii_hexdigit}
 use Rattle.std.specs.List.{list_all}
@@ -60,7 +61,8 @@ record_kind text = record_type_of text
 
 abbrev pub named_of : List ℕ → Option NamedType
 named_of text =
-    if is_some (entry_kind text) || is_some (record_kind text) then Some (record { gpt = entry_kind text; mbr = record_kind text }) else None
+    if is_some (entry_kind text) || is_some (record_kind text) then Some (record { gpt = entry_kind text; mbr = record_kind text })
+    else None
 
 -- ## Numbers.
 

@@ -3,7 +3,7 @@
 ghost use Rattle.std.specs.Prelude.{◌≡◌, ◌≤◌, ◌^◌, IfOk, Some, None, if◌then◌else◌, map, length};
 ghost use Rattle.std.specs.Option.{option_map};
 ghost use Rattle.serde_json.specs.View.{view};
-ghost use Rattle.pt_drafts.specs.Values.{all_of, each_of, exactly, list_in, whole, whole_below};
+ghost use Rattle.pt_drafts.specs.Values.{all_of, exactly, list_in, whole, whole_below};
 ghost use Rattle.pt_drafts.specs.inner.Arrays.{filled};
 
 use crate::draft::Chain;

@@ -1,7 +1,6 @@
 //! Attributes in sfdisk's words.
 
 ghost use Rattle.std.specs.Prelude.{◌≡◌, ◌∷◌, ◌==◌};
-ghost use Rattle.std.specs.List.{slice_split};
 ghost use Rattle.std.specs.Option.{option_map};
 ghost use Rattle.pt_drafts.specs.Attributes.{bits_of, if_own, own_bit, own_bits, word_bits, are_worded};
 ghost use Rattle.pt_drafts.specs.Pieces.{pieces};

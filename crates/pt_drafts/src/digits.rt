@@ -1,7 +1,6 @@
 //! Numbers as digits.
 
-ghost use Rattle.std.specs.Prelude.{◌≡◌, ◌+◌, ◌*◌, ◌^◌, None, Some, if◌then◌else◌, nat_lt};
-ghost use Rattle.std.specs.Char.{is_ascii_digit};
+ghost use Rattle.std.specs.Prelude.{◌≡◌};
 ghost use Rattle.pt_drafts.specs.Digits.{decimal_of, digits_at_end};
 ghost use Rattle.pt_drafts.specs.inner.Steps.{next_number};
 

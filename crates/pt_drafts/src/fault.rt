@@ -5,7 +5,6 @@ ghost use Rattle.pt_drafts.specs.Keys.{key_text};
 ghost use Rattle.pt_drafts.specs.declared.fault.DraftError.TheVariants as error;
 
 use std::alloc::{AllocError, AllocFailed};
-use std::error::Error;
 use std::fmt;
 
 /// Where a fault lies: mostly the member that has it.

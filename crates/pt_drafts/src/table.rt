@@ -1,7 +1,6 @@
 //! What a table says.
 
 ghost use Rattle.std.specs.Prelude.{◌≡◌, IfOk, IfErr, None, Ok, [], codes, map};
-ghost use Rattle.std.specs.Option.{option_map};
 ghost use Rattle.serde_json.specs.Find.{get};
 ghost use Rattle.serde_json.specs.View.{view};
 ghost use Rattle.pt_drafts.specs.Members.{given};
@@ -11,7 +10,7 @@ ghost use Rattle.pt_drafts.specs.Values.{each_of, whole};
 ghost use Rattle.pt_drafts.specs.declared.fault.Key.TheVariants as key;
 
 use crate::arrays::{each, list};
-use crate::draft::{Chain, DiskId, Draft, PartDraft, Parts, TableKind};
+use crate::draft::{Chain, DiskId, Draft, Parts, TableKind};
 use crate::fault::{DraftError, Key, TextFault};
 use crate::members::{check, given, has_only, is_text};
 use crate::parts::part;

@@ -329,17 +329,6 @@ fn faults_of_a_partition(rt: HostRuntime) -> Result<(), Fail> {
         ("\"name\":\"a\",\"name_units\":[65]", Key::NameUnits),
         ("\"name_units\":[65536]", Key::NameUnits),
         ("\"name_units\":\"a\"", Key::NameUnits),
-        ("\"attributes\":\"1\"", Key::Attributes),
-        ("\"attrs\":\"Bootable\"", Key::Attrs),
-        ("\"attrs\":\"GUID:\"", Key::Attrs),
-        ("\"attrs\":\"GUID:47\"", Key::Attrs),
-        ("\"attrs\":\"GUID:64\"", Key::Attrs),
-        ("\"attrs\":\"GUID:48,\"", Key::Attrs),
-        ("\"attrs\":1", Key::Attrs),
-        (
-            "\"attributes\":5,\"attrs\":\"RequiredPartition\"",
-            Key::Attrs,
-        ),
         ("\"bootable\":1", Key::Bootable),
         ("\"boot\":256", Key::Boot),
         ("\"boot\":0,\"bootable\":false", Key::Boot),
@@ -356,12 +345,84 @@ fn faults_of_a_partition(rt: HostRuntime) -> Result<(), Fail> {
     Ok(())
 }
 
+#[test]
+fn faults_of_attributes(rt: HostRuntime) -> Result<(), Fail> {
+    for (member, key) in [
+        ("\"attributes\":\"1\"", Key::Attributes),
+        ("\"attrs\":\"Bootable\"", Key::Attrs),
+        ("\"attrs\":\"GUID:\"", Key::Attrs),
+        ("\"attrs\":\"GUID:47\"", Key::Attrs),
+        ("\"attrs\":\"GUID:64\"", Key::Attrs),
+        ("\"attrs\":\"GUID:48,\"", Key::Attrs),
+        ("\"attrs\":1", Key::Attrs),
+        (
+            "\"attributes\":5,\"attrs\":\"RequiredPartition\"",
+            Key::Attrs,
+        ),
+    ] {
+        let text = with_part(rt.alloc(), member)?;
+        assert!(rt;
+            fault(rt.alloc(), text.as_str()) == Some(TextFault { key, part: Some(2) }),
+            "{member}"
+        );
+    }
+    Ok(())
+}
+
+#[test]
+fn attributes(rt: HostRuntime) -> Result<(), Fail> {
+    for (member, bits) in [
+        ("\"attributes\":8", 8),
+        ("\"attrs\":\"\"", 0),
+        ("\"attrs\":\" RequiredPartition  NoBlockIOProtocol \"", 3),
+        ("\"attrs\":\"GUID:63,48 GUID:50\"", 0x8005_0000_0000_0000),
+        ("\"attributes\":12,\"attrs\":\"LegacyBIOSBootable\"", 12),
+        ("\"attributes\":12,\"attrs\":null", 12),
+    ] {
+        let text = with_member(
+            rt.alloc(),
+            format!(in rt.alloc(); "\"partitions\":[{{{member}}}]")?.as_str(),
+        )?;
+        let draft = read_draft(rt.alloc(), text.as_str())?;
+        assert!(rt;
+            gpt_part(&draft, 0).and_then(|part| part.attributes) == Some(bits),
+            "{member}"
+        );
+    }
+    Ok(())
+}
+
+#[test]
+fn sizes(rt: HostRuntime) -> Result<(), Fail> {
+    for (size, extent) in [
+        ("0", Extent::Sectors(0)),
+        ("\"0KiB\"", Extent::Bytes(0)),
+        ("\"007KiB\"", Extent::Bytes(7168)),
+        ("\"3MiB\"", Extent::Bytes(3145728)),
+        ("\"5GiB\"", Extent::Bytes(5368709120)),
+        ("\"16777215TiB\"", Extent::Bytes(18446742974197923840)),
+    ] {
+        let text = with_member(
+            rt.alloc(),
+            format!(in rt.alloc(); "\"partitions\":[{{\"size\":{size}}}]")?.as_str(),
+        )?;
+        let draft = read_draft(rt.alloc(), text.as_str())?;
+        assert!(rt;
+            gpt_part(&draft, 0).and_then(|part| part.extent) == Some(extent),
+            "{size}"
+        );
+    }
+    Ok(())
+}
+
 // ---- labels
 
 const LABEL: &str = r#""kind": 5, "subtype": 6, "type_name": "000102030405060708090a0b0c0d0e0f",
  "pack_name": "00000000000000000000000000000000", "geometry": [63, 16, 20, 1008], "unit": 20160,
- "kept": "0000000000000000000000000000000000000000000000000000000000000000000000000000000000000000000000000000000000000000000000000000000000000001",
- "bbsize": 8192, "sbsize": 0, "entries": [null, null, {"size": 20160, "offset": 4294967295, "fragment": 1, "fstype": 7, "frag": 8, "cpg": 65535},
+ "kept":
+"0000000000000000000000000000000000000000000000000000000000000000000000000000000000000000000000000000000000000000000000000000000000000001",
+ "bbsize": 8192, "sbsize": 0, "entries": [null, null,
+ {"size": 20160, "offset": 4294967295, "fragment": 1, "fstype": 7, "frag": 8, "cpg": 65535},
  null, null, null, null"#;
 
 #[test]

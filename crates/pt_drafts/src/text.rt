@@ -38,7 +38,10 @@ fn value_draft(alloc: Global, value: &Value) -> Result<Draft, DraftError>
     }
 }
 
-/// All that a text says of a table, or its first fault. Of two members with one name the last counts.
+/// All that a text says of a table, or its first fault. They are looked for in this order: in the text as a whole, in the names of the
+/// table's members, in these members, and then in each object of `partitions`, first in its names too.
+///
+/// Of two members with one name the last counts. A text that nests deeper than 127 isn't read.
 #[tactic(auto, unfolding(crate::specs::Tables::draft_of))]
 pub fn read_draft(alloc: Global, text: &str) -> Result<Draft, DraftError>
     ensures ok { IfOk result (λ d. draft_of text.now ≡ Ok d) }

@@ -1,10 +1,9 @@
 //! What texts stand for.
 
-ghost use Rattle.std.specs.Prelude.{◌≡◌, ◌*◌, ◌^◌, Some, codes};
+ghost use Rattle.std.specs.Prelude.{◌≡◌, Some};
 ghost use Rattle.std.specs.Char.{is_ascii_hexdigit};
 ghost use Rattle.std.specs.List.{list_all};
 ghost use Rattle.std.specs.Option.{option_map};
-ghost use Rattle.pt_drafts.specs.Digits.{decimal_of};
 ghost use Rattle.pt_drafts.specs.Pieces.{behind, in_front_of};
 ghost use Rattle.pt_drafts.specs.Texts.{are_hex_digits, by_text, bytes_of, count_of, disk_of, entry_kind, extent_of, guid_of};
 ghost use Rattle.pt_drafts.specs.Texts.{is_signature, kind_of, named_of, node_number, record_kind, scaled};

@@ -1,10 +1,10 @@
 //! Values of JSON by what they stand for.
 
-ghost use Rattle.std.specs.Prelude.{◌≡◌, ◌^◌, Option, option_map};
+ghost use Rattle.std.specs.Prelude.{◌≡◌, ◌^◌, Option};
 ghost use Rattle.serde_json.specs.Data.{Data};
 ghost use Rattle.serde_json.specs.Find.{as_bool};
 ghost use Rattle.serde_json.specs.View.{view};
-ghost use Rattle.pt_drafts.specs.Values.{hex_bytes, if_not_null, list_in, whole, whole_below};
+ghost use Rattle.pt_drafts.specs.Values.{hex_bytes, if_not_null, whole, whole_below};
 
 use hex::FromHex;
 use serde_json::Value;

@@ -12,7 +12,8 @@ returns c =
     let same : drop n text ≡ digits_at_end text = elim c.loop-start-test.branch [
       | then-loop-start-test+else-is_ascii_digit w ↦
           let one : n ≡ suc (n - 1) = omega (arith, w.loop-start-test.true) in
-          sym (behind text n (n - 1) one c.loop-start.invariant.within (sym w.if-is_ascii_digit.ensures.value) c.loop-start.invariant.digits)
+          sym (behind text n (n - 1) one c.loop-start.invariant.within (sym w.if-is_ascii_digit.ensures.value)
+          c.loop-start.invariant.digits)
       | else-loop-start-test w ↦
           let none : n ≡ 0 = omega (arith, w.loop-start-test.false) in
           rw none (sym (whole text (rw none at c.loop-start.invariant.digits)))

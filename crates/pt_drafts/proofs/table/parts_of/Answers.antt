@@ -21,5 +21,5 @@ loop-k-preserved c =
 pub returns-clause-ok : goal.returns-clause-ok
 returns-clause-ok c =
     let xs = c.args.objects.now in
-    no_more_parts view xs c.loop-k.k c.loop-k.parts.items (parts_from 1 (map view xs)) (omega (arith, c.loop-k-test.false)) c.loop-k.invariant
-    ∙ ap Ok (sym c.new.ensures)
+    no_more_parts view xs c.loop-k.k c.loop-k.parts.items (parts_from 1 (map view xs)) (omega (arith, c.loop-k-test.false))
+    c.loop-k.invariant ∙ ap Ok (sym c.new.ensures)
