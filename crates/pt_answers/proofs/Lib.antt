@@ -1,3 +1,4 @@
 pub mod Opened
 pub mod ReadSoFar
+pub mod TablesRead
 pub mod Texts

@@ -54,12 +54,12 @@ abbrev pub refusal_line : List ℕ → ℕ → List ℕ
 refusal_line by number = line (codes "refused:" ∷ by ∷ decimal number ∷ [])
 
 -- the first fault of a table's text: its name there, and which object of `partitions` has it
-abbrev pub part_text : Option ℕ → List (List ℕ)
-part_text None = []
-part_text (Some part) = decimal part ∷ []
+abbrev pub fault_line_of : List ℕ → Option ℕ → List ℕ
+fault_line_of key None = line (codes "refused: table" ∷ key ∷ [])
+fault_line_of key (Some part) = line (codes "refused: table" ∷ key ∷ decimal part ∷ [])
 
 abbrev pub fault_line : TextFault → List ℕ
-fault_line fault = line (codes "refused: table" ∷ key_text fault.key ∷ part_text fault.part)
+fault_line fault = fault_line_of (key_text fault.key) fault.part
 
 -- a table's text that isn't read
 abbrev pub no_text_line : Unreadable → List ℕ

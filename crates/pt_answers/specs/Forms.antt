@@ -4,7 +4,7 @@ use Rattle.pt_members.specs.declared.layout.Layout.{Layout}
 use Rattle.pt_types.specs.Listing.{types_lines}
 use Rattle.pt_tables.specs.Text.{IsText, table_data}
 use Rattle.pt_line.specs.declared.line.Form.{Form}
-use Rattle.pt_line.specs.declared.line.Form.TheVariants.{Json, Lines}
+use Rattle.pt_line.specs.declared.line.Form.TheVariants.{Json}
 use Rattle.pt_report.specs.declared.reply.Reply.{Reply}
 use Rattle.pt_report.specs.declared.reply.Reply.TheVariants.{Text}
 use Rattle.pt_report.specs.declared.reply.Reply.TheVariants as reply

@@ -1,5 +1,5 @@
 -- `set`: a table's text as it is read, and what is done with it.
-use Rattle.std.specs.Prelude.{◌≡◌, ◌≤◌, ◌<◌, ◌⊎◌, ℕ, List, ◌∷◌, Option, Some, None, Result, Ok, Err, IfErr, IfSome, IsUtf8, length}
+use Rattle.std.specs.Prelude.{◌≡◌, ◌≤◌, ◌<◌, ◌⊎◌, ℕ, List, ◌∷◌, Option, Result, Ok, Err, IfErr, IfSome, IsUtf8, length}
 use Rattle.pt_sector.specs.Device.{Blames, with_fault}
 use Rattle.pt_sector.specs.Overlays.{OnlyReads}
 use Rattle.pt_sector.specs.declared.disk.Disk.{Ghosts}
@@ -8,7 +8,6 @@ use Rattle.pt_cases.specs.declared.primary.Primary.{Primary as Choice}
 use Rattle.pt_disks.specs.declared.open.OpenError.{OpenError}
 use Rattle.pt_drafts.specs.Tables.{draft_of}
 use Rattle.pt_drafts.specs.declared.draft.Draft.{Draft}
-use Rattle.pt_drafts.specs.declared.fault.TextFault.{TextFault}
 use Rattle.pt_set.specs.Sets.{Becomes, IsPlanFor, NotPlanned, SetHidesNoFailure, set_fault_in}
 use Rattle.pt_set.specs.declared.error.SetError.{SetError}
 use Rattle.pt_report.specs.declared.reply.Reply.{Reply}

@@ -1,14 +1,15 @@
 //! Why the command ends without an answer.
 
-ghost use Rattle.std.specs.Prelude.{◌≡◌, ◌++◌, codes, IfSome, OnOk};
+ghost use Rattle.std.specs.Prelude.{◌≡◌, ◌++◌, codes, IfSome, OnOk, Some};
 ghost use Rattle.std.specs.Io.KnownBytes.{Appends};
 ghost use Rattle.std.specs.IoError.{error_kind};
-ghost use Rattle.pt_answers.specs.Failures.{IsTold, failure_text, fault_line, no_text_line, opening_text, output_failure, refusal_line};
+ghost use Rattle.pt_answers.specs.Failures.{IsTold, failure_text, fault_line, fault_line_of, no_text_line, opening_text, output_failure, refusal_line};
+ghost use Rattle.pt_drafts.specs.Keys.{key_text};
 ghost use Rattle.pt_report.specs.Replies.{no_table_text};
 ghost use Rattle.pt_answers.specs.Statuses.{failure_status, opening_status as status_of_opening, reason_status, side_status, text_status};
 
 use pt_disks::NoDevice;
-use pt_drafts::TextFault;
+use pt_drafts::{Key, TextFault};
 use pt_gpt::Side;
 use pt_layout::{NoTable, SideError};
 use pt_report::{Status, print_no_side, print_no_table};
@@ -241,9 +242,16 @@ fn print_fault<E: Write>(err: &mut E, fault: TextFault) -> io::Result<()>
     ensures { OnOk result (Appends (E.contents err.old) (E.contents err.new) (fault_line fault)) }
 {
     match fault.part {
-        Some(part) => writeln!(err, "refused: table {} {part}", fault.key),
+        Some(part) => print_fault_in(err, fault.key, part),
         None => writeln!(err, "refused: table {}", fault.key),
     }
+}
+
+// That of an object of `partitions`.
+fn print_fault_in<E: Write>(err: &mut E, key: Key, part: u64) -> io::Result<()>
+    ensures { OnOk result (Appends (E.contents err.old) (E.contents err.new) (fault_line_of (key_text key) (Some part))) }
+{
+    writeln!(err, "refused: table {key} {part}")
 }
 
 // Why the text of a table isn't read.

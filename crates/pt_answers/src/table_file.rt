@@ -35,6 +35,14 @@ fn draft_in(alloc: Global, text: &str) -> Result<Draft, Failure>
     Ok(read_draft(alloc, text)?)
 }
 
+// The draft of a file's bytes.
+fn draft_of_bytes(alloc: Global, bytes: Vec<u8>) -> Result<Draft, Failure>
+    ensures { ReadsDraft (Some bytes.items) result }
+{
+    let text = text_of(bytes)?;
+    draft_in(alloc, text.as_str())
+}
+
 /// The draft in a file that was opened.
 pub(crate) fn draft_at<T: Read + Drop>(alloc: Global, file: T) -> Result<Draft, Failure>
     ensures { ReadsDraft (T.remaining file) result }
@@ -44,6 +52,5 @@ pub(crate) fn draft_at<T: Read + Drop>(alloc: Global, file: T) -> Result<Draft, 
         Err(Failure::Memory) => return Err(Failure::Memory),
         Err(_) => return Err(Failure::NoText(NoText::Unreadable)),
     };
-    let text = text_of(bytes)?;
-    draft_in(alloc, text.as_str())
+    draft_of_bytes(alloc, bytes)
 }
