@@ -15,4 +15,7 @@ pub use Rattle.pt_plan.specs.Layouts
 pub use Rattle.pt_types.specs.Types
 pub use Rattle.pt_types.specs.Listing
 pub use Rattle.pt_tables.specs.Text
+pub use Rattle.pt_drafts.specs.Tables
+pub use Rattle.pt_set.specs.Layouts
+pub use Rattle.pt_set.specs.Sets
 pub use Rattle.pt_sector.specs.inner.ForFields

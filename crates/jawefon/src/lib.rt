@@ -27,7 +27,9 @@
 //!   keep it. [`plan_wanted`] and [`commit_wanted`] take what is [`Wanted`] and the choice; so do [`make_plan_by`],
 //!   [`plan_for_repair_by`], [`repair_by`], [`plan_like_by`] and [`commit_like_by`].
 //! - **Text**: [`table_text`] is a layout as JSON, in the manner of `sfdisk --json`. [`entry_type`] and [`record_type`] read the names of
-//!   partition types, [`entry_type_name`] and [`record_type_name`] give them, and [`types_text`] lists them.
+//!   partition types, [`entry_type_name`] and [`record_type_name`] give them, and [`types_text`] lists them. [`read_draft`] reads what a
+//!   text says of a table, [`table_for`] makes a layout of it, with what the text leaves out, and [`plan_draft`] and [`commit_draft`] plan
+//!   and commit that; the types of a draft are in the module [`drafts`].
 //! - **Formats**: the modules [`mbr`], [`gpt`], [`bsd`] and [`sums`] read and write single records, headers, entries and labels, and
 //!   have the types that a layout is built of.
 //!
@@ -36,6 +38,7 @@
 #![tactic(auto)]
 
 pub mod bsd;
+pub mod drafts;
 pub mod gpt;
 mod listing;
 pub mod mbr;
@@ -66,6 +69,7 @@ pub use pt_disks::device_sector_size;
 pub use pt_disks::in_memory::CrashDisk;
 pub use pt_disks::in_memory::MemDisk;
 pub use pt_disks::open_plain;
+pub use pt_drafts::read_draft;
 pub use pt_edit::Code;
 pub use pt_edit::Edit;
 pub use pt_edit::EditError;
@@ -148,6 +152,10 @@ pub use pt_sector::Overlay;
 pub use pt_sector::ReadCache;
 pub use pt_sector::Room;
 pub use pt_sector::Sector;
+pub use pt_set::SetError;
+pub use pt_set::commit_draft;
+pub use pt_set::plan_draft;
+pub use pt_set::table_for;
 pub use pt_tables::table_text;
 pub use pt_types::EntryType;
 pub use pt_types::RecordType;

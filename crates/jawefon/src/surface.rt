@@ -1,16 +1,18 @@
 //! The surface as a program uses it: what its own values are made of, and the steps that no example takes.
 
 use crate::bsd::{decode_label, empty_label, encode_label};
+use crate::drafts::{DraftError, Key, TextFault};
 use crate::gpt::{Side, decode_header, encode_header, has_room, read_copy};
 use crate::mbr::{Mbr, decode_mbr, encode_mbr, protective, put_record, read_chain};
 use crate::sums::{Crc, crc32, xor16};
 use crate::{
     Access, After, Body, Code, CommitError, CrashDisk, Disk, Edit, End, Extent, Fault, FileDisk,
-    Guid, InUse, Layout, Lba, MemDisk, NoDevice, NoTable, Overlay, Path, ReadCache, Room, Row,
-    Rows, Run, Sector, Source, apply, code_of_type, commit, device_sector_size, edit, entry_type,
-    entry_type_name, free_blocks, fresh, guids_for, is_owned, is_table, layout_after, make_plan,
-    parse_guid, record_type, record_type_name, recover, recover_traced, table_text, type_of_code,
-    type_of_record, unsound,
+    Guid, InUse, Layout, Lba, MemDisk, NoDevice, NoTable, Overlay, Path, Primary, ReadCache, Room,
+    Row, Rows, Run, Sector, SetError, Source, apply, code_of_type, commit, commit_draft,
+    device_sector_size, edit, entry_type, entry_type_name, free_blocks, fresh, guids_for, is_owned,
+    is_table, layout_after, make_plan, parse_guid, plan_draft, read_draft, record_type,
+    record_type_name, recover, recover_traced, table_for, table_text, type_of_code, type_of_record,
+    unsound,
 };
 use std::alloc::Global;
 use std::test::Fail;
@@ -176,6 +178,49 @@ fn texts(rt: HostRuntime) -> Result<(), Fail> {
     assert!(rt; entry_type_name(&lvm) == Some("lvm"));
     assert!(rt; record_type("5") == Some(0x05) && record_type("swap") == Some(0x82));
     assert!(rt; record_type_name(0xEE).is_none());
+    Ok(())
+}
+
+/// A text with one partition of 100 sectors, by its size in bytes.
+const TEXT: &str =
+    r#"{"partitiontable": {"partitions": [{"start": 100, "size": "50KiB", "type": "swap"}]}}"#;
+
+#[test]
+fn a_table_by_its_text(rt: HostRuntime) -> Result<(), Fail> {
+    let mut disk: MemDisk<512> = MemDisk::new(rt.alloc(), 4096)?;
+    let draft = read_draft(rt.alloc(), TEXT)?;
+    let plan = plan_draft(rt.alloc(), &mut disk, &draft, &guids(), Primary::Kept)?;
+    assert!(rt; !plan.phases.is_empty());
+    commit_draft(rt.alloc(), &mut disk, &draft, &guids(), Primary::Kept)?;
+    let layout = recover(rt.alloc(), &mut disk)?;
+    match &layout.body {
+        Body::Gpt(table) => match table.entries.get(0) {
+            Some(entry) => {
+                assert!(rt; entry.first == 100 && entry.last == 199);
+                assert!(rt; entry.unique == guids()[1] && Some(entry.kind) == entry_type("swap"));
+            }
+            None => assert!(rt; false),
+        },
+        Body::Mbr { .. } => assert!(rt; false),
+    }
+    let made = table_for::<512>(rt.alloc(), &draft, 4096, Some(&layout), &[])?;
+    assert!(rt; made.same(&layout));
+    Ok(())
+}
+
+#[test]
+fn a_faulty_text(rt: HostRuntime) -> Result<(), Fail> {
+    let mut disk = gpt_disk(rt.alloc())?;
+    let text = r#"{"partitiontable": {"partitions": [{}, {"number": 200}]}}"#;
+    let draft = read_draft(rt.alloc(), text)?;
+    let found = commit_draft(rt.alloc(), &mut disk, &draft, &guids(), Primary::Kept);
+    let fault = TextFault {
+        key: Key::Number,
+        part: Some(2),
+    };
+    assert!(rt; matches!(found, Err(SetError::Fault(told)) if told == fault));
+    let spelt = read_draft(rt.alloc(), r#"{"partitiontable": {"lable": "gpt"}}"#);
+    assert!(rt; matches!(spelt, Err(DraftError::Fault(told)) if told.key == Key::Unknown));
     Ok(())
 }
 

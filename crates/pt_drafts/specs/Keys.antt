@@ -1,7 +1,10 @@
 -- The names of faults.
-use Rattle.std.specs.Prelude.{ℕ, List, codes}
+use Rattle.std.specs.Prelude.{ℕ, List, ◌++◌, Option, Some, None, codes, decimal}
 use Rattle.pt_drafts.specs.declared.fault.Key.{Key}
 use Rattle.pt_drafts.specs.declared.fault.Key.TheVariants as key
+use Rattle.pt_drafts.specs.declared.fault.DraftError.{DraftError}
+use Rattle.pt_drafts.specs.declared.fault.DraftError.TheVariants.{Fault, Memory}
+use Rattle.pt_drafts.specs.declared.fault.TextFault.{TextFault}
 
 -- a key as it is shown: the name that a text has for it
 abbrev pub key_text : Key → List ℕ
@@ -39,3 +42,17 @@ key_text key.StartChs = codes "start_chs"
 key_text key.EndChs = codes "end_chs"
 key_text key.Record = codes "record"
 key_text key.Bsd = codes "bsd"
+
+-- ## What a fault prints.
+
+abbrev pub part_sentence : Option ℕ → Key → List ℕ
+part_sentence None key = codes "the table's text has a fault at `" ++ (key_text key ++ codes "`")
+part_sentence (Some part) key =
+    codes "object " ++ (decimal part ++ (codes " of `partitions` has a fault at `" ++ (key_text key ++ codes "`")))
+
+abbrev pub fault_sentence : TextFault → List ℕ
+fault_sentence fault = part_sentence fault.part fault.key
+
+abbrev pub draft_error_sentence : DraftError → List ℕ
+draft_error_sentence (Fault fault) = fault_sentence fault
+draft_error_sentence Memory = codes "there is no memory"

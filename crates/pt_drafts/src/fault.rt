@@ -1,10 +1,11 @@
 //! What is wrong with a text.
 
 ghost use Rattle.std.specs.Prelude.{◌≡◌, Some};
-ghost use Rattle.pt_drafts.specs.Keys.{key_text};
+ghost use Rattle.pt_drafts.specs.Keys.{draft_error_sentence, fault_sentence, key_text};
 ghost use Rattle.pt_drafts.specs.declared.fault.DraftError.TheVariants as error;
 
 use std::alloc::{AllocError, AllocFailed};
+use std::error::Error;
 use std::fmt;
 
 /// Where a fault lies: mostly the member that has it.
@@ -100,6 +101,23 @@ pub struct TextFault {
     pub part: Option<u64>,
 }
 
+impl fmt::Display for TextFault {
+    ghost output = { λ fault. Some (fault_sentence fault) };
+
+    fn fmt<W: fmt::Write>(&self, f: &mut fmt::Formatter<W>) -> fmt::Result {
+        match self.part {
+            Some(part) => write!(
+                f,
+                "object {part} of `partitions` has a fault at `{}`",
+                self.key
+            ),
+            None => write!(f, "the table's text has a fault at `{}`", self.key),
+        }
+    }
+}
+
+impl Error for TextFault {}
+
 /// Why a text gives no draft.
 #[derive(Clone, Copy, Debug, PartialEq, Eq)]
 pub enum DraftError {
@@ -107,6 +125,19 @@ pub enum DraftError {
     /// There is no memory.
     Memory,
 }
+
+impl fmt::Display for DraftError {
+    ghost output = { λ error. Some (draft_error_sentence error) };
+
+    fn fmt<W: fmt::Write>(&self, f: &mut fmt::Formatter<W>) -> fmt::Result {
+        match self {
+            DraftError::Fault(fault) => fmt::Display::fmt(fault, f),
+            DraftError::Memory => f.write_str("there is no memory"),
+        }
+    }
+}
+
+impl Error for DraftError {}
 
 impl From<AllocError> for DraftError {
     ghost from_gives = { λ _ e. e ≡ error.Memory };

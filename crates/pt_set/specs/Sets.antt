@@ -17,6 +17,8 @@ use Rattle.pt_drafts.specs.declared.draft.Draft.{Draft}
 use Rattle.pt_drafts.specs.declared.fault.DraftError.{DraftError}
 use Rattle.pt_drafts.specs.declared.fault.DraftError.TheVariants as draft_error
 use Rattle.pt_drafts.specs.declared.fault.TextFault.{TextFault}
+use Rattle.pt_drafts.specs.Keys.{fault_sentence}
+use Rattle.pt_plan.specs.Sentences.{commit_error_sentence}
 use Rattle.pt_set.specs.declared.error.SetError.{SetError}
 use Rattle.pt_set.specs.declared.error.SetError.TheVariants.{Fault as Faulty, Disk}
 use Rattle.pt_set.specs.Layouts.{IsTableOf}
@@ -24,6 +26,11 @@ use Rattle.pt_set.specs.Layouts.{IsTableOf}
 abbrev pub draft_failure : DraftError → SetError
 draft_failure (draft_error.Fault fault) = Faulty fault
 draft_failure draft_error.Memory = Disk commit.Memory
+
+-- what it prints
+abbrev pub set_error_sentence : SetError → List ℕ
+set_error_sentence (Faulty fault) = fault_sentence fault
+set_error_sentence (Disk error) = commit_error_sentence error
 
 -- the fault of the disk that an error carries
 abbrev pub set_fault_in : SetError → Option Fault

@@ -1,11 +1,13 @@
 //! Why a disk doesn't take the table of a draft.
 
-ghost use Rattle.std.specs.Prelude.{◌≡◌};
-ghost use Rattle.pt_set.specs.Sets.{draft_failure};
+ghost use Rattle.std.specs.Prelude.{◌≡◌, Some};
+ghost use Rattle.pt_set.specs.Sets.{draft_failure, set_error_sentence};
 ghost use Rattle.pt_set.specs.declared.error.SetError.TheVariants as set_error;
 
 use pt_drafts::{DraftError, TextFault};
 use pt_plan::CommitError;
+use std::error::Error;
+use std::fmt;
 
 /// Why a disk doesn't take the table of a draft.
 #[derive(Clone, Copy, Debug, PartialEq, Eq)]
@@ -15,6 +17,19 @@ pub enum SetError {
     /// The disk couldn't be read, or what a commit of the layout reported of it; or there is no memory.
     Disk(CommitError),
 }
+
+impl fmt::Display for SetError {
+    ghost output = { λ error. Some (set_error_sentence error) };
+
+    fn fmt<W: fmt::Write>(&self, f: &mut fmt::Formatter<W>) -> fmt::Result {
+        match self {
+            SetError::Fault(fault) => fmt::Display::fmt(fault, f),
+            SetError::Disk(error) => fmt::Display::fmt(error, f),
+        }
+    }
+}
+
+impl Error for SetError {}
 
 impl From<DraftError> for SetError {
     ghost from_gives = { λ error e. e ≡ draft_failure error };
