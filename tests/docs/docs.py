@@ -47,7 +47,7 @@ def blocks(text):
 
 
 def steps(block):
-    """(command, the output that follows it) of each command."""
+    """(command, the output that follows it) of each command; the text that it takes behind <<END, up to that word, is a part of it."""
     for part in re.split(r"^\$ ", block, flags=re.MULTILINE)[1:]:
         command, output = part.split("\n", 1)
         while command.endswith(("\\", "|")):
