@@ -52,16 +52,18 @@ _ptab() {
   if [ -z "$command" ]; then
     case $current in
       -*) _ptab_of "$current" --help -h --version -V ;;
-      *) _ptab_of "$current" show verify locate free types edit plan check apply repair adopt help ;;
+      *) _ptab_of "$current" show verify locate free types edit plan check apply repair adopt set help ;;
     esac
     return
   fi
   case $command:$current in
-    help:*) [ ${#places[@]} = 0 ] && _ptab_of "$current" show verify locate free types edit plan check apply repair adopt; return ;;
+    help:*) [ ${#places[@]} = 0 ] && _ptab_of "$current" show verify locate free types edit plan check apply repair adopt set; return ;;
     edit:-*) _ptab_of "$current" --fresh --keep-primary --device --sector-size --in-use --no-lock --help -h; return ;;
     plan:-*) _ptab_of "$current" --fresh --keep-primary --device --sector-size --help -h; return ;;
     show:-*) _ptab_of "$current" --after --copy --json --device --sector-size --help -h; return ;;
     adopt:-*) _ptab_of "$current" --plan --by-table --other-device --device --sector-size --in-use --no-lock --help -h; return ;;
+    set:-*) _ptab_of "$current" --plan --fresh --by-table --device --sector-size --in-use --no-lock --help -h; return ;;
+    free:-*) _ptab_of "$current" --json --device --sector-size --help -h; return ;;
     repair:-*) _ptab_of "$current" --keep-primary --device --sector-size --in-use --no-lock --help -h; return ;;
     types:-*) _ptab_of "$current" --help -h; return ;;
     apply:-*) _ptab_of "$current" --device --sector-size --in-use --no-lock --help -h; return ;;
@@ -70,8 +72,10 @@ _ptab() {
   shopt -q extglob && extglob=1
   shopt -s extglob
   case $command:${#places[@]} in
-    show:0 | verify:0 | locate:0 | free:0 | edit:0 | plan:0 | check:0 | apply:0 | repair:0 | adopt:0 | adopt:1) _ptab_images "$current" ;;
-    check:1 | apply:1)
+    show:0 | verify:0 | locate:0 | free:0 | edit:0 | plan:0 | check:0 | apply:0 | repair:0 | adopt:0 | adopt:1 | set:0)
+      _ptab_images "$current"
+      ;;
+    check:1 | apply:1 | set:1)
       mapfile -t COMPREPLY < <(compgen -f -- "$current")
       compopt -o filenames 2>/dev/null
       ;;

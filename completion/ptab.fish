@@ -41,8 +41,8 @@ function __ptab_images
 end
 
 # those that work on an image
-set -l commands show verify locate free edit plan check apply repair adopt
-set -l writing edit apply repair adopt
+set -l commands show verify locate free edit plan check apply repair adopt set
+set -l writing edit apply repair adopt set
 
 complete -c ptab -f
 complete -c ptab -n "__ptab_in; or __ptab_in types $commands" -s h -l help -d 'Print help'
@@ -58,15 +58,16 @@ complete -c ptab -n '__ptab_in; or __ptab_at 0 help' -a check -d 'Answers whethe
 complete -c ptab -n '__ptab_in; or __ptab_at 0 help' -a apply -d 'Applies a plan to the image, where `check` says yes'
 complete -c ptab -n '__ptab_in; or __ptab_at 0 help' -a repair -d 'Makes the image healthy, and keeps its partitions as they are'
 complete -c ptab -n '__ptab_in; or __ptab_at 0 help' -a adopt -d 'Gives the image the table of another one, as one change'
+complete -c ptab -n '__ptab_in; or __ptab_at 0 help' -a set -d 'Gives the image the table that a text in JSON says, as one change'
 complete -c ptab -n __ptab_in -a help -d 'Print this message or the help of the given subcommand(s)'
 
-complete -c ptab -n '__ptab_in edit plan' -l fresh -x -d 'Fresh GUIDs, 32 hexadecimal digits each'
+complete -c ptab -n '__ptab_in edit plan set' -l fresh -x -d 'Fresh GUIDs, 32 hexadecimal digits each'
 complete -c ptab -n '__ptab_in edit plan repair' -l keep-primary -d 'Keep the primary copy of a GPT whole throughout'
 complete -c ptab -n '__ptab_in show' -l after -rF -d 'A plan, as if it were applied'
 complete -c ptab -n '__ptab_in show' -l copy -xa 'primary backup' -d 'One copy of a GPT alone: primary or backup'
-complete -c ptab -n '__ptab_in show' -l json -d 'Print the table as an object of JSON'
-complete -c ptab -n '__ptab_in adopt' -l plan -d 'Print the plan, and write nothing'
-complete -c ptab -n '__ptab_in adopt' -l by-table -d 'Zero the primary header meanwhile, as `edit` does'
+complete -c ptab -n '__ptab_in show free' -l json -d 'Print JSON in place of lines'
+complete -c ptab -n '__ptab_in adopt set' -l plan -d 'Print the plan, and write nothing'
+complete -c ptab -n '__ptab_in adopt set' -l by-table -d 'Zero the primary header meanwhile, as `edit` does'
 complete -c ptab -n '__ptab_in adopt' -l other-device -d 'OTHER is a block device'
 complete -c ptab -n "__ptab_in $commands" -l device -d 'IMAGE is a block device'
 complete -c ptab -n "__ptab_in $commands" -l sector-size -xa '512 4096' -d '512 (the default) or 4096; a device has its own'
@@ -74,5 +75,5 @@ complete -c ptab -n "__ptab_in $writing" -l in-use -d 'Write a device also where
 complete -c ptab -n "__ptab_in $writing" -l no-lock -d 'Take no lock: the caller holds the image\'s'
 
 complete -c ptab -n "__ptab_at 0 $commands; or __ptab_at 1 adopt" -a '(__ptab_images)'
-complete -c ptab -n '__ptab_at 1 check apply' -F
+complete -c ptab -n '__ptab_at 1 check apply set' -F
 complete -c ptab -n '__ptab_at any edit plan' -a 'a: o n: d: t: c: u: U: A: e g'

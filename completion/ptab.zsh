@@ -19,6 +19,7 @@ _ptab_command() {
     'apply:Applies a plan to the image, where `check` says yes'
     'repair:Makes the image healthy, and keeps its partitions as they are'
     'adopt:Gives the image the table of another one, as one change'
+    'set:Gives the image the table that a text in JSON says, as one change'
   )
   if [[ $1 = with-help ]]; then commands+=('help:Print this message or the help of the given subcommand(s)'); fi
   _describe -t commands command commands
@@ -31,7 +32,7 @@ _ptab_word() {
 
 _ptab() {
   local curcontext=$curcontext state line
-  local -a on_disk writing fresh keep
+  local -a on_disk writing fresh keep json taking
   on_disk=(
     '(- *)'{-h,--help}'[Print help]'
     '--device[IMAGE is a block device]'
@@ -43,6 +44,11 @@ _ptab() {
   )
   fresh='--fresh=[Fresh GUIDs, 32 hexadecimal digits each]:hexadecimal digits:'
   keep='--keep-primary[Keep the primary copy of a GPT whole throughout]'
+  json='--json[Print JSON in place of lines]'
+  taking=(
+    '--plan[Print the plan, and write nothing]'
+    '--by-table[Zero the primary header meanwhile, as `edit` does]'
+  )
   _arguments -C '(- *)'{-h,--help}'[Print help]' '(- *)'{-V,--version}'[Print version]' \
     '1:command: _ptab_command with-help' '*::argument:->behind' && return 0
   [[ $state = behind ]] || return 1
@@ -50,12 +56,12 @@ _ptab() {
   case $words[1] in
     show)
       _arguments $on_disk '--after=[A plan, as if it were applied]:plan:_files' \
-        '--copy=[One copy of a GPT alone: primary or backup]:copy:(primary backup)' '--json[Print the table as an object of JSON]' \
+        '--copy=[One copy of a GPT alone: primary or backup]:copy:(primary backup)' $json \
         '1:image:_ptab_image'
       ;;
     verify) _arguments $on_disk '1:image:_ptab_image' ;;
     locate) _arguments $on_disk '1:image:_ptab_image' '2:partition, as 3, 5 or 2.a:' '3:sector of the partition, from 0 on:' ;;
-    free) _arguments $on_disk '1:image:_ptab_image' ;;
+    free) _arguments $on_disk $json '1:image:_ptab_image' ;;
     types) _arguments '(- *)'{-h,--help}'[Print help]' ;;
     edit) _arguments $on_disk $writing $fresh $keep '1:image:_ptab_image' '*:word:_ptab_word' ;;
     plan) _arguments $on_disk $fresh $keep '1:image:_ptab_image' '*:word:_ptab_word' ;;
@@ -63,10 +69,9 @@ _ptab() {
     apply) _arguments $on_disk $writing '1:image:_ptab_image' '2:plan:_files' ;;
     repair) _arguments $on_disk $writing $keep '1:image:_ptab_image' ;;
     adopt)
-      _arguments $on_disk $writing '--plan[Print the plan, and write nothing]' '--by-table[Zero the primary header meanwhile, as `edit` does]' \
-        '--other-device[OTHER is a block device]' \
-        '1:image:_ptab_image' '2:other:_ptab_image'
+      _arguments $on_disk $writing $taking '--other-device[OTHER is a block device]' '1:image:_ptab_image' '2:other:_ptab_image'
       ;;
+    set) _arguments $on_disk $writing $taking $fresh '1:image:_ptab_image' '2:table:_files' ;;
     help) _arguments '1:command:_ptab_command' ;;
     *) return 1 ;;
   esac

@@ -48,6 +48,8 @@ COMPLETIONS = (
     ("ptab free a.img ", []), ("ptab nonsense ", []), ("ptab adopt a.img ", IMAGES), ("ptab adopt --p", ["--plan"]),
     ("ptab show --j", ["--json"]), ("ptab show --json ", IMAGES), ("ptab show --json a.img ", []), ("ptab ty", ["types"]),
     ("ptab help ty", ["types"]), ("ptab types ", []), ("ptab types --h", ["--help"]), ("ptab types --d", []), ("ptab verify --j", []),
+    ("ptab se", ["set"]), ("ptab set ", IMAGES), ("ptab set a.img n", ["notes"]), ("ptab set a.img notes ", []),
+    ("ptab set --f", ["--fresh"]), ("ptab set --fresh 00 --plan ", IMAGES), ("ptab free --j", ["--json"]), ("ptab free --json ", IMAGES),
 )
 
 

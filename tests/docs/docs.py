@@ -47,12 +47,16 @@ def blocks(text):
 
 
 def steps(block):
-    """(command, the output that follows it) of each command."""
+    """(command, the output that follows it) of each command; the text that it takes behind <<END, up to that word, is a part of it."""
     for part in re.split(r"^\$ ", block, flags=re.MULTILINE)[1:]:
         command, output = part.split("\n", 1)
         while command.endswith(("\\", "|")):
             more, output = output.split("\n", 1)
             command = f"{command}\n{more}"
+        here = re.search(r"<<(\w+)$", command)
+        if here:
+            text, output = re.split(rf"^{here[1]}\n", output, maxsplit=1, flags=re.MULTILINE)
+            command = f"{command}\n{text}{here[1]}"
         yield command, output
 
 
@@ -110,7 +114,7 @@ def advice(text):
     """How many answers of docs/commands.md say what to do: all but the successes."""
     count = 0
     for head, cells in rows(text):
-        if head[0] in ("Table", "Word", "E", "Where"):
+        if head[0] in ("Table", "Word", "E", "Where", "Left out"):
             continue
         if head[-1] != "What to do" or len(cells) != len(head) or not (cells[-1] or cells[0] in SUCCESSES):
             sys.exit(f"docs/commands.md doesn't say what to do: {cells}")

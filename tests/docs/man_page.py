@@ -23,7 +23,7 @@ from commands import COMMANDS
 from compared import same
 from sentences import read
 
-NOT_DIAGNOSTICS = ("Word", "Table", "Status", "E")
+NOT_DIAGNOSTICS = ("Word", "Table", "Status", "E", "Left out")
 # what docs/commands.md writes shorter: the text there, and those printed that it stands for
 SHORT = {"no table: ..": [], "a number": [], "no 5 alternate primary": ["no 5 alternate primary", "no 5 alternate backup"],
          "refused: check N": []}
@@ -295,7 +295,8 @@ def texts_of_pages(docs):
             "plan": {text: it for text, it in edit.items() if text not in locked},
             "check": {**of["check"], **devices}, "apply": {**of["check"], **locked, **in_use, **devices},
             "repair": {**of["repair"], **locked, **in_use, **reads},
-            "adopt": {**of["adopt"], **plans, **locked, **in_use, **devices}}
+            "adopt": {**of["adopt"], **plans, **locked, **in_use, **devices},
+            "set": {**of["set"], "bad fresh": of["edit"]["bad fresh"], **plans, **locked, **in_use, **devices}}
 
 
 def spelled(text):
