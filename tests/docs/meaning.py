@@ -111,7 +111,10 @@ class Definitions:
         bound = {it for group in re.findall(r"[({]([^(){}:]*?) : ", text) for it in group.split()}
         bound |= {it for group in re.findall(r"λ ([^.]*)\.", text) for it in re.findall(r"[^\s(){}:]+", group)}
         found = set()
-        for word in set(WORD.findall(text)):
+        words = set(WORD.findall(text))
+        # `do` binds by the operator that is in scope
+        words |= {"◌>>=◌"} if {"do", ">>="} & words else set()
+        for word in words:
             first, *rest = word.split(".")
             key = names.get(first) or (Key(module, first) if module and first not in bound else None)
             if key and key.name is None:
