@@ -19,8 +19,10 @@ pub mod EditTerms
 pub mod EntryAnswers
 pub mod EntryPlaces
 pub mod Extended
+pub mod ExtendedNumber
 pub mod Folding
 pub mod FourRecords
+pub mod FreeLists
 pub mod Gaps
 pub mod Gathered
 pub mod Kept

@@ -17,6 +17,7 @@ mod space;
 mod types;
 
 pub use chain_create::new_logical;
+pub(crate) use chain_space::space_in;
 pub use chain_edit::{delete_logical, set_logical_kind};
 pub use creation::new;
 pub use deletion::delete;
