@@ -4,26 +4,26 @@ use Rattle.std.specs.Prelude.{flat_map, map}
 use Rattle.std.proofs.lemmas.List.{flat_map_more, take_all, take_more}
 use Rattle.pt_edit.specs.declared.free.FreeBlock.{FreeBlock}
 use Rattle.pt_edit.specs.declared.space.space.Run.{Run}
-use Rattle.pt_edit.specs.Free.{AreFree, Place, block_of, place_of}
-use Rattle.pt_edit.specs.Space.{Area, AreBlocks}
+use Rattle.pt_edit.specs.Free.{AreFree, Place, block_of}
+use Rattle.pt_edit.specs.Space.{AreBlocks}
 use Rattle.pt_edit.specs.inner.Free.{Adds}
 
 free_append : (ps qs : List Place) (xs ys : List FreeBlock) → AreFree ps xs → AreFree qs ys → AreFree (ps ++ qs) (xs ++ ys)
 free_append [] qs xs ys is also = subst (λ (l : List FreeBlock). AreFree qs (l ++ ys)) (sym is) also
 free_append (p ∷ ps) qs xs ys is also =
     let runs = is.0 in
-    let rest = is.1.0 in
-    (runs, rest ++ ys, is.1.1.0, free_append ps qs rest ys is.1.1.1.0 also,
-    ap (λ (l : List FreeBlock). l ++ ys) is.1.1.1.1 ∙ append_assoc (map (block_of p.inside) runs) rest ys)
+    let rest = is.1 in
+    (runs, rest ++ ys, is.2, free_append ps qs rest ys is.3 also,
+    ap (λ (l : List FreeBlock). l ++ ys) is.4 ∙ append_assoc (map (block_of p.inside) runs) rest ys)
 
 -- nothing is added
 pub adds_none : (xs : List FreeBlock) → Adds [] xs xs
 adds_none xs ps is = subst (λ (l : List Place). AreFree l xs) (sym (append-nil ps)) is
 
 -- some, and then others
-pub adds_both : (as bs : List Place) (xs ys zs : List FreeBlock) → Adds as xs ys → Adds bs ys zs → Adds (as ++ bs) xs zs
-adds_both as bs xs ys zs one two ps is =
-    subst (λ (l : List Place). AreFree l zs) (append_assoc ps as bs) (two (ps ++ as) (one ps is))
+pub adds_both : (ms ns : List Place) (xs ys zs : List FreeBlock) → Adds ms xs ys → Adds ns ys zs → Adds (ms ++ ns) xs zs
+adds_both ms ns xs ys zs one two ps is =
+    subst (λ (l : List Place). AreFree l zs) (append_assoc ps ms ns) (two (ps ++ ms) (one ps is))
 
 -- those of one place
 pub adds_one : (n : Place) (runs : List Run) (xs ys : List FreeBlock) → AreBlocks n.area runs → ys ≡ xs ++ map (block_of n.inside) runs
@@ -46,4 +46,4 @@ adds_more f os k z xs ys zs within one two =
 -- those of all of them
 pub adds_all : {X : Type 0} (f : X → List Place) (os : List X) (k : ℕ) (xs ys : List FreeBlock) → length os ≤ k
     → Adds (flat_map f (take k os)) xs ys → Adds (flat_map f os) xs ys
-adds_all f os k xs ys past is = subst (λ (l : List _). Adds (flat_map f l) xs ys) (take_all os k past) is
+adds_all f os k xs ys past is = subst (λ (l : List _). Adds (flat_map f l) xs ys) (take_all k os past) is

@@ -5,6 +5,7 @@ pub mod Answering
 pub mod Apart
 pub mod BlockEnds
 pub mod Blocks
+pub mod BlocksWithin
 pub mod ChainAnswers
 pub mod ChainLaws
 pub mod ChainNewLaws
