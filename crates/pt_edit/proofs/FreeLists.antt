@@ -12,9 +12,13 @@ free_append : (ps qs : List Place) (xs ys : List FreeBlock) → AreFree ps xs �
 free_append [] qs xs ys is also = subst (λ (l : List FreeBlock). AreFree qs (l ++ ys)) (sym is) also
 free_append (p ∷ ps) qs xs ys is also =
     let runs = is.0 in
-    let rest = is.1 in
-    (runs, rest ++ ys, is.2, free_append ps qs rest ys is.3 also,
-    ap (λ (l : List FreeBlock). l ++ ys) is.4 ∙ append_assoc (map (block_of p.inside) runs) rest ys)
+    let rest = is.1 in (
+      runs,
+      rest ++ ys,
+      is.2,
+      free_append ps qs rest ys is.3 also,
+      ap (λ (l : List FreeBlock). l ++ ys) is.4 ∙ append_assoc (map (block_of p.inside) runs) rest ys,
+    )
 
 -- nothing is added
 pub adds_none : (xs : List FreeBlock) → Adds [] xs xs
@@ -47,3 +51,9 @@ adds_more f os k z xs ys zs within one two =
 pub adds_all : {X : Type 0} (f : X → List Place) (os : List X) (k : ℕ) (xs ys : List FreeBlock) → length os ≤ k
     → Adds (flat_map f (take k os)) xs ys → Adds (flat_map f os) xs ys
 adds_all f os k xs ys past is = subst (λ (l : List _). Adds (flat_map f l) xs ys) (take_all k os past) is
+
+-- those of one place, of some more, and of the rest
+pub all_three : (n : Place) (ms ns : List Place) (ws xs ys zs : List FreeBlock) → ws ≡ [] → Adds (n ∷ []) ws xs → Adds ms xs ys
+    → Adds ns ys zs → AreFree (n ∷ (ms ++ ns)) zs
+all_three n ms ns ws xs ys zs none one two three =
+    adds_both (n ∷ []) (ms ++ ns) ws xs zs one (adds_both ms ns xs ys zs two three) [] none

@@ -6,11 +6,10 @@ ghost use Rattle.pt_edit.specs.Free.{slice_place, slice_places};
 ghost use Rattle.pt_edit.specs.Space.{area_of, AreBlocks};
 ghost use Rattle.pt_edit.specs.inner.Free.{Adds};
 
-use crate::labels;
 use crate::new_entry::table_space;
-use crate::records;
 use crate::records::record_space;
 use crate::space::{Run, Space, blocks};
+use crate::{labels, records};
 use pt_mbr::{FIRST_LOGICAL, Record, is_extended_kind};
 use pt_members::{
     Body, Kind, Labels, Layout, Member, find_label, next_number, numbered_slot, slot_count,
@@ -50,11 +49,7 @@ pub fn free_blocks(alloc: Global, layout: &Layout) -> Result<Vec<Run>, AllocErro
 }
 
 // Adds blocks with the number of what they lie inside.
-fn push_runs(
-    list: &mut Vec<FreeBlock>,
-    inside: Option<u64>,
-    runs: &[Run],
-) -> Result<(), AllocError>
+fn push_runs(list: &mut Vec<FreeBlock>, inside: Option<u64>, runs: &[Run]) -> Result<(), AllocError>
     requires { All (λ r. (r.first < 2 ^ 64) × (r.last < 2 ^ 64)) runs.now }
     ensures { OnOk result (list.new.items ≡ list.old.items ++ map (block_of inside) runs.now) }
 {
@@ -98,11 +93,7 @@ fn extended_in(records: &[Option<Record>; 4]) -> Option<(u64, Record)>
 }
 
 // Adds the blocks inside the extended partition.
-fn push_extended(
-    alloc: Global,
-    list: &mut Vec<FreeBlock>,
-    body: &Body,
-) -> Result<(), AllocError>
+fn push_extended(alloc: Global, list: &mut Vec<FreeBlock>, body: &Body) -> Result<(), AllocError>
     ensures { OnOk result (Adds (extended_places body.now) list.old.items list.new.items) }
 {
     let Body::Mbr { records, chain } = body else {

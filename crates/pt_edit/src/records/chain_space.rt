@@ -60,11 +60,7 @@ fn empties_in(alloc: Global, chain: &[Ebr]) -> Result<Vec<u64>, AllocError>
 }
 
 // Where logical partitions are placed in an extended one with this chain.
-pub(crate) fn space_in(
-    alloc: Global,
-    extended: &Record,
-    chain: &[Ebr],
-) -> Result<Space, AllocError>
+pub(crate) fn space_in(alloc: Global, extended: &Record, chain: &[Ebr]) -> Result<Space, AllocError>
     ensures area { IfOk result (λ space. area_of space ≡ logical_area extended.now chain.now) }
     ensures small { IfOk result (λ space. space.high < 2 ^ 64) }
 {

@@ -12,7 +12,7 @@ pub push_runs-requires : goal.push_runs-requires
 push_runs-requires c =
     let a = area_of c.args.space in
     subst (λ (l : List Run). (k : ℕ) (d : Run) → k < length l
-        → ((slice_index_or l k d).first < 2 ^ 64) × ((slice_index_or l k d).last < 2 ^ 64))
+    → ((slice_index_or l k d).first < 2 ^ 64) × ((slice_index_or l k d).last < 2 ^ 64))
     (sym c.as_slice.ensures.value) (all_below a c.in_ok-runs.runs.items (2 ^ 64) c.in_ok-runs.ensures c.requires)
 
 pub returns : goal.returns
