@@ -95,9 +95,11 @@ def main(words):
             for words, (status, text) in zip(group, answers.result()):
                 name = os.path.basename(words[0])
                 print(f"== {name}\n{text}", end="", flush=True)
-                failed += [name] * (status != 0)
+                failed += [(name, text)] * (status != 0)
     if failed:
-        sys.exit(f"side_by_side.py: failed: {' '.join(failed)}")
+        # again at the end, which a log that is cut off keeps
+        print(*(f"== {name} failed\n{text[-4000:]}" for name, text in failed), sep="\n")
+        sys.exit(f"side_by_side.py: failed: {' '.join(name for name, _ in failed)}")
 
 
 main(sys.argv[1:])

@@ -215,8 +215,9 @@ class Edit:
         self.ready()
         place.put(self.image)
         same(f"{self.told}: the medium before", place.on_medium() == self.image, True)
-        place.drive.tell(fault)
+        # the kernel may flush by itself as soon as it is told
         before = place.drive.counts()[0]
+        place.drive.tell(fault)
         status = self.way.edit(place, self.words)
         failed, left = place.drive.counts()[:2]
         return status, failed > before, left

@@ -1,6 +1,5 @@
 """Images on a drive that fails at will (failing_drive.c): a device over it, and a file in a file system over that. What the drive has, and
 what its medium has, are read behind the kernel's back, so none of its caches has a part in it."""
-import errno
 import fcntl
 import os
 import struct
@@ -183,8 +182,8 @@ class File:
             # the first such call finds it out, and the next is told
             for _ in range(2 if os.path.exists(self.path) else 0):
                 os.utime(self.path)
-        except OSError as error:
-            return error.errno == errno.EROFS
+        except OSError:
+            return True
         return False
 
     def open_again(self):

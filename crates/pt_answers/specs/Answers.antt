@@ -17,7 +17,8 @@ use Rattle.pt_recover.specs.FromSides.{SideGives, SideGivesNone}
 use Rattle.pt_recover.specs.declared.side.SideError.{SideError}
 use Rattle.pt_layout.specs.Healthy.{VerdictIs}
 use Rattle.pt_layout.specs.declared.sound.finding.Verdict.{Verdict}
-use Rattle.pt_edit.specs.Free.{free_area}
+use Rattle.pt_edit.specs.Free.{AreFree, free_places}
+use Rattle.pt_edit.specs.declared.free.FreeBlock.{FreeBlock}
 use Rattle.pt_edit.specs.Space.{AreBlocks}
 use Rattle.pt_edit.specs.declared.space.space.Run.{Run}
 use Rattle.pt_check.specs.Answers.{Answers as AnswersPlan, Promises}
@@ -98,13 +99,13 @@ Locates b d p k (Ok place) = (o : Layout) × Denotes b d (Some o) × PlaceIs b o
 Locates b d p k (Err why) = TellsNothing b d why
 
 -- `free`
-abbrev pub free_reply : Result (Vec Run Global) NoTable → Result Reply Failure
+abbrev pub free_reply : Result (Vec FreeBlock Global) NoTable → Result Reply Failure
 free_reply (Ok blocks) = Ok (reply.Free blocks)
 free_reply (Err why) = Err (failure.NoTable why)
 
--- all blocks where a new entry or record of the layout may lie
-abbrev pub Frees : ℕ → Sectors → Result (Vec Run Global) NoTable → Type 0
-Frees b d (Ok blocks) = (o : Layout) × Denotes b d (Some o) × AreBlocks (free_area o) blocks.items
+-- all blocks where a new partition of the layout may lie
+abbrev pub Frees : ℕ → Sectors → Result (Vec FreeBlock Global) NoTable → Type 0
+Frees b d (Ok blocks) = (o : Layout) × Denotes b d (Some o) × AreFree (free_places b o) blocks.items
 Frees b d (Err why) = TellsNothing b d why
 
 -- the path and the number that two texts are; the path's fault is reported first

@@ -36,7 +36,8 @@ use Rattle.pt_answers.specs.declared.failure.Failure.TheVariants.{NotText, Usage
 use Rattle.pt_answers.specs.declared.failure.Failure.TheVariants.{BadCopy, Edit, Plan, Check, Repair, PlanText, OtherSize, OtherOpening}
 use Rattle.pt_answers.specs.declared.failure.NoText.{NoText as Unreadable}
 use Rattle.pt_answers.specs.declared.failure.NoText.TheVariants as no_text
-use Rattle.pt_answers.specs.declared.failure.Failure.TheVariants.{Table, NoText, Other, NoTable, NoSide, Opening, Device, ClosedPipe, Memory}
+use Rattle.pt_answers.specs.declared.failure.Failure.TheVariants.{Table, NoText, Other, NoTable, NoSide, Opening, Device, ClosedPipe}
+use Rattle.pt_answers.specs.declared.failure.Failure.TheVariants.{Memory}
 use Rattle.pt_report.specs.declared.status.Status.{Status}
 use Rattle.pt_report.specs.declared.status.Status.TheVariants as status
 use Rattle.pt_answers.specs.Statuses.{failure_status}

@@ -2,6 +2,8 @@
 use Rattle.std.specs.Prelude.{◌≡◌, ◌++◌, ℕ, List, codes, Result, Ok, Err, string_bytes}
 use Rattle.pt_members.specs.declared.layout.Layout.{Layout}
 use Rattle.pt_types.specs.Listing.{types_lines}
+use Rattle.pt_edit.specs.declared.free.FreeBlock.{FreeBlock}
+use Rattle.pt_tables.specs.Free.{free_data}
 use Rattle.pt_tables.specs.Text.{IsText, table_data}
 use Rattle.pt_line.specs.declared.line.Form.{Form}
 use Rattle.pt_line.specs.declared.line.Form.TheVariants.{Json}
@@ -18,9 +20,16 @@ IsJson b image o (Ok (Text text)) =
 IsJson b image o (Ok other) = ⊥
 IsJson b image o (Err why) = why ≡ Memory
 
--- an answer on an image in a form: a table may be shown as JSON, and all else is in lines
+-- free blocks as a text of JSON, and a line's end; or lack of memory
+abbrev pub IsFreeJson : List FreeBlock → Result Reply Failure → Type 0
+IsFreeJson blocks (Ok (Text text)) = (json : List ℕ) × IsText json (free_data blocks) × (string_bytes text ≡ json ++ codes "\n")
+IsFreeJson blocks (Ok other) = ⊥
+IsFreeJson blocks (Err why) = why ≡ Memory
+
+-- an answer on an image in a form: a table and free blocks may be shown as JSON, and all else is in lines
 abbrev pub InForm : ℕ → List ℕ → Form → Result Reply Failure → Result Reply Failure → Type 0
 InForm b image Json (Ok (reply.Layout o)) answer = IsJson b image o answer
+InForm b image Json (Ok (reply.Free blocks)) answer = IsFreeJson blocks.items answer
 InForm b image form found answer = answer ≡ found
 
 -- the list of types; or lack of memory

@@ -1,13 +1,14 @@
 //! Answers in the form that they are asked for in.
 
 ghost use Rattle.pt_sector.specs.Sectors.{IsSectorSize};
-ghost use Rattle.pt_answers.specs.Forms.{InForm, IsJson, IsTypes};
+ghost use Rattle.pt_answers.specs.Forms.{InForm, IsFreeJson, IsJson, IsTypes};
 
 use crate::failure::Failure;
+use pt_edit::FreeBlock;
 use pt_layout::Layout;
 use pt_line::Form;
 use pt_report::Reply;
-use pt_tables::table_text;
+use pt_tables::{free_text, table_text};
 use pt_types::types_text;
 use std::alloc::Global;
 
@@ -21,7 +22,16 @@ fn json<const B: usize>(alloc: Global, image: &str, layout: &Layout) -> Result<R
     Ok(Reply::Text(text))
 }
 
-/// An answer on an image with sectors of `B` bytes: a table may be shown as JSON, and all else is in lines.
+// Free blocks as JSON.
+fn free_json(alloc: Global, blocks: &[FreeBlock]) -> Result<Reply, Failure>
+    ensures { IsFreeJson blocks.now result }
+{
+    let mut text = free_text(alloc, blocks)?;
+    text.push_str("\n")?;
+    Ok(Reply::Text(text))
+}
+
+/// An answer on an image with sectors of `B` bytes: a table and free blocks may be shown as JSON, and all else is in lines.
 pub(crate) fn formed<const B: usize>(
     alloc: Global,
     image: &str,
@@ -33,6 +43,7 @@ pub(crate) fn formed<const B: usize>(
 {
     match (form, found) {
         (Form::Json, Ok(Reply::Layout(layout))) => json::<B>(alloc, image, &layout),
+        (Form::Json, Ok(Reply::Free(blocks))) => free_json(alloc, blocks.as_slice()),
         (_, found) => found,
     }
 }

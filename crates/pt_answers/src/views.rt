@@ -12,8 +12,7 @@ ghost use Rattle.pt_answers.specs.OnDisks.{FreesOn, LocatesOn, ShowsAfter, Shows
 use crate::failure::Failure;
 use pt_apply::Plan;
 use pt_check::Answer;
-use pt_edit::free_blocks;
-use pt_edit::space::Run;
+use pt_edit::{FreeBlock, all_free_blocks};
 use pt_gpt::Side;
 use pt_layout::{
     Layout, NoTable, Path, locate, parse_number, parse_path, recover, recover_from, verify,
@@ -120,14 +119,17 @@ pub fn free_on<const B: usize, D: Disk<B>>(alloc: Global, disk: &mut D) -> Resul
 }
 
 // Those blocks, or why the disk denotes nothing.
-fn blocks_on<const B: usize, D: Disk<B>>(alloc: Global, disk: &mut D) -> Result<Vec<Run>, NoTable>
+fn blocks_on<const B: usize, D: Disk<B>>(
+    alloc: Global,
+    disk: &mut D,
+) -> Result<Vec<FreeBlock>, NoTable>
     requires size { IsSectorSize B }
     ensures same { OnlyReads D.Disk disk.old disk.new }
     ensures blames { Blames fault_in result (D.faults disk.old) (D.faults disk.new) }
     ensures frees { D.tells → Frees B (D.told disk.old).seen result }
 {
     let layout = recover::<B, D>(alloc, disk)?;
-    Ok(free_blocks(alloc, &layout)?)
+    Ok(all_free_blocks::<B>(alloc, &layout)?)
 }
 
 /// The copy that a text names, `primary` or `backup`. With a plan's file none is named: what a plan leaves is a table, and no copy.

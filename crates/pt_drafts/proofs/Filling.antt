@@ -8,8 +8,12 @@ use Rattle.std.proofs.lemmas.List.{length-map, drop_more, drop_all, drop-replica
 use Rattle.serde_json.specs.Data.{Data}
 use Rattle.serde_json.specs.View.{items_of}
 use Rattle.pt_drafts.specs.Values.{all_of, list_of, list_in, exactly, at_most}
-use Rattle.pt_drafts.specs.inner.Arrays.{joined, filled, written_over}
+use Rattle.pt_drafts.specs.inner.Arrays.{filled, written_over}
 use Rattle.pt_drafts.specs.Names.{padded}
+
+-- what is left to come, behind what has come
+abbrev pub joined : {A : Type 0} → List A → Option (List A) → Option (List A)
+joined front rest = option_map (λ ys. front ++ ys) rest
 
 pub items_listed : (ds : List Data) → list_of (items_of ds) ≡ ds
 items_listed [] = refl

@@ -7,9 +7,13 @@ use Rattle.serde_json.specs.Data.{Data}
 use Rattle.pt_drafts.specs.Members.{◌>>=◌}
 use Rattle.pt_drafts.specs.Parts.{part_in}
 use Rattle.pt_drafts.specs.Tables.{parts_from, told}
-use Rattle.pt_drafts.specs.inner.Rows.{with_rest}
 use Rattle.pt_drafts.specs.declared.draft.PartDraft.{PartDraft}
 use Rattle.pt_drafts.specs.declared.fault.TextFault.{TextFault}
+
+-- those that are left to come, behind those that have come
+abbrev pub with_rest : List PartDraft → Result (List PartDraft) TextFault → Result (List PartDraft) TextFault
+with_rest front (Ok rest) = Ok (front ++ rest)
+with_rest front (Err fault) = Err fault
 
 rest_more : (front : List PartDraft) (p : PartDraft) (r : Result (List PartDraft) TextFault)
     → with_rest front (r >>= λ ps. Ok (p ∷ ps)) ≡ with_rest (front ++ p ∷ []) r

@@ -5,6 +5,7 @@ pub mod Answering
 pub mod Apart
 pub mod BlockEnds
 pub mod Blocks
+pub mod BlocksWithin
 pub mod ChainAnswers
 pub mod ChainLaws
 pub mod ChainNewLaws
@@ -19,8 +20,10 @@ pub mod EditTerms
 pub mod EntryAnswers
 pub mod EntryPlaces
 pub mod Extended
+pub mod ExtendedNumber
 pub mod Folding
 pub mod FourRecords
+pub mod FreeLists
 pub mod Gaps
 pub mod Gathered
 pub mod Kept

@@ -1,3 +1,4 @@
 pub mod Edited
 pub mod Entries
+pub mod Free
 pub mod Space

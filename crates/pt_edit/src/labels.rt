@@ -9,4 +9,5 @@ pub use lists::{
     add_label, drop_label, drop_logical_labels, lower_labels, put_label, raise_labels,
 };
 pub use new::new_part;
+pub(crate) use new::space_in;
 pub use parts::{delete_part, set_part_kind};

@@ -30,6 +30,6 @@ mod twins;
 
 pub use convert::to_gpt;
 pub use fold::edit;
-pub use free::free_blocks;
+pub use free::{FreeBlock, all_free_blocks, free_blocks};
 pub use partitions::guids_for;
 pub use pt_words::{Code, Edit, EditError, End, Refusal, parse_edit};

@@ -18,6 +18,7 @@ mod types;
 
 pub use chain_create::new_logical;
 pub use chain_edit::{delete_logical, set_logical_kind};
+pub(crate) use chain_space::space_in;
 pub use creation::new;
 pub use deletion::delete;
 pub use kind::set_kind;

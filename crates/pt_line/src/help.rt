@@ -268,8 +268,8 @@ pub const FREE: Texts = page!(
 Each line is `FIRST LAST`: free sectors with none before or after them, in
 ascending order. Every sector is the disk's own number. On a GPT those are free
 that are usable and in no entry; on an MBR those from 1 on, as far as the disk
-and 32 bits reach, that are in no record. The inside of the extended partition
-and of slices isn't listed. `none`: no sector is free.
+and 32 bits reach, that are in no record. `FIRST LAST N`: free inside partition
+N, the extended one or a slice with a label. `none`: no sector is free.
 
 ",
     "\

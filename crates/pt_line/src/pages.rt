@@ -182,7 +182,7 @@ fn table_file<'a>(alloc: Global) -> Arg<'a>
     needed(
         alloc,
         "TABLE",
-        "A table as JSON, a plain file of 8 MiB at most; -: standard input",
+        "A table as JSON, 8 MiB at most; -: standard input",
     )
 }
 

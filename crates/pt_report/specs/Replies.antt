@@ -22,7 +22,7 @@ use Rattle.pt_check.specs.declared.answer.Answer.TheVariants as answer
 use Rattle.pt_check.specs.declared.answer.Why.{Why}
 use Rattle.pt_check.specs.declared.answer.Why.TheVariants as why
 use Rattle.pt_check.specs.Answers.{why_number}
-use Rattle.pt_edit.specs.declared.space.space.Run.{Run}
+use Rattle.pt_edit.specs.declared.free.FreeBlock.{FreeBlock}
 use Rattle.pt_report.specs.declared.reply.Reply.{Reply}
 use Rattle.pt_report.specs.declared.reply.Reply.TheVariants.{Text, Layout, Place, Free, Checked, Done}
 use Rattle.pt_report.specs.declared.reply.Reply.TheVariants as reply
@@ -117,11 +117,16 @@ abbrev pub place_line : Option Lba → List ℕ
 place_line None = line (codes "none" ∷ [])
 place_line (Some at) = line (decimal at.0 ∷ [])
 
--- the first and the last sector of a block
-abbrev pub block_line : Run → List ℕ
-block_line r = line (decimal r.first ∷ decimal r.last ∷ [])
+-- the number of the extended partition or of the slice that a block lies inside, where it lies inside one
+abbrev pub inside_fields : Option ℕ → List (List ℕ)
+inside_fields None = []
+inside_fields (Some number) = decimal number ∷ []
 
-abbrev pub blocks_text : List Run → List ℕ
+-- the first and the last sector of a block, and what it lies inside
+abbrev pub block_line : FreeBlock → List ℕ
+block_line b = line (decimal b.first ∷ decimal b.last ∷ inside_fields b.inside)
+
+abbrev pub blocks_text : List FreeBlock → List ℕ
 blocks_text [] = line (codes "none" ∷ [])
 blocks_text (b ∷ bs) = flat_map block_line (b ∷ bs)
 

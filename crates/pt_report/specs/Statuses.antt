@@ -1,7 +1,7 @@
 -- Exit statuses, and that of each answer.
 use Rattle.std.specs.Prelude.{ℕ, List, [], ◌∷◌, None}
 use Rattle.pt_check.specs.declared.answer.Answer.TheVariants as answer
-use Rattle.pt_edit.specs.declared.space.space.Run.{Run}
+use Rattle.pt_edit.specs.declared.free.FreeBlock.{FreeBlock}
 use Rattle.pt_layout.specs.declared.sound.finding.Verdict.TheVariants as verdict
 use Rattle.pt_report.specs.declared.reply.Reply.{Reply}
 use Rattle.pt_report.specs.declared.reply.Reply.TheVariants as reply
@@ -19,7 +19,7 @@ status_code Device = 5
 status_code Memory = 6
 
 -- that there is none is a no
-abbrev pub blocks_status : List Run → Status
+abbrev pub blocks_status : List FreeBlock → Status
 blocks_status [] = No
 blocks_status (b ∷ bs) = Done
 

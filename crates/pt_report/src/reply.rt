@@ -9,7 +9,7 @@ use crate::finding::print_finding;
 use crate::layout::print_layout;
 use crate::why::print_no;
 use pt_check::Answer;
-use pt_edit::space::Run;
+use pt_edit::FreeBlock;
 use pt_layout::{Layout, Verdict};
 use pt_sector::Lba;
 use std::io;
@@ -25,7 +25,7 @@ pub enum Reply {
     /// Where on the disk a partition's sector is, if it is anywhere.
     Place(Option<Lba>),
     /// The blocks of sectors where a new partition may lie.
-    Free(Vec<Run>),
+    Free(Vec<FreeBlock>),
     Checked(Answer),
     /// What was to be written is written.
     Done,

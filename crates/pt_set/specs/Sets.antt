@@ -54,10 +54,6 @@ IsMadeFrom b n d fresh draft r = (old : Option Layout) × Denotes b d old × IsT
 abbrev pub IsWanted : ℕ → ℕ → Sectors → List Guid → Draft → Layout → Type 0
 IsWanted b n d fresh draft wanted = IsMadeFrom b n d fresh draft (Ok wanted)
 
-abbrev pub NotWanted : ℕ → ℕ → Sectors → List Guid → Draft → SetError → Type 0
-NotWanted b n d fresh draft (Faulty fault) = IsMadeFrom b n d fresh draft (Err fault)
-NotWanted b n d fresh draft (Disk error) = IsUnread error
-
 -- a plan for it
 abbrev pub IsPlanFor : Choice → ℕ → ℕ → Sectors → List Guid → Draft → List Writes → Type 0
 IsPlanFor primary b n d fresh draft phases = (wanted : Layout) × IsWanted b n d fresh draft wanted × IsPlanBy primary b d wanted phases

@@ -7,7 +7,8 @@ ghost use Rattle.pt_sector.specs.Overlays.{OnlyReads};
 ghost use Rattle.pt_apply.specs.Plans.{phases_of, InRange};
 ghost use Rattle.pt_recover.specs.Denotes.{Denotes};
 ghost use Rattle.pt_plan.specs.Commits.{commit_fault_in, HidesNoFailure};
-ghost use Rattle.pt_set.specs.Sets.{Becomes, IsPlanFor, IsUnread, IsWanted, NotPlanned, NotWanted, SetHidesNoFailure, set_fault_in};
+ghost use Rattle.pt_set.specs.inner.Wanting.{NotWanted};
+ghost use Rattle.pt_set.specs.Sets.{Becomes, IsPlanFor, IsUnread, IsWanted, NotPlanned, SetHidesNoFailure, set_fault_in};
 
 use crate::error::SetError;
 use crate::table::table_for;

@@ -18,8 +18,10 @@ use Rattle.pt_members.specs.declared.layout.Body.TheVariants.{Mbr, Gpt}
 use Rattle.pt_members.specs.declared.layout.Labelled.{Labelled}
 use Rattle.pt_members.specs.declared.layout.Layout.{Layout}
 use Rattle.pt_members.specs.Members.{is_slice_kind, label_of}
+use Rattle.pt_edit.specs.declared.free.FreeBlock.{FreeBlock}
 use Rattle.pt_types.specs.Types.{entry_name_of, record_name_of}
 use Rattle.pt_tables.specs.Fields.{Field, with_fields, object_of, array_of, has_size, end_field, num, nums, numbered, type_name_fields}
+use Rattle.pt_tables.specs.Free.{inside_fields, block_fields, block_data, free_data}
 use Rattle.pt_tables.specs.Labels.{part_fields, part_data, label_fields, label_data, bsd_fields}
 use Rattle.pt_tables.specs.Entries.{is_no_text, trimmed, units_field, units_fields, name_fields, attribute_fields, attributes_text}
 use Rattle.pt_tables.specs.Entries.{text_fields, entry_kind_fields, entry_fields, entry_data, entries_data}
@@ -230,3 +232,20 @@ table_within device b o =
     let table = object_within fields 5 (both (common_fields device b o.sectors) _ 5 (common_within device b o.sectors)
     (body_within device o.labels o.body)) in
     object_within ((codes "partitiontable", object_of fields) ∷ []) 6 (table, tt)
+
+-- ## Blocks of free sectors.
+
+inside_within : (inside : Option ℕ) → Within 0 (inside_fields inside)
+inside_within None = tt
+inside_within (Some n) = (omega arith, tt)
+
+block_within : (b : FreeBlock) → depth (block_data b) ≤ 1
+block_within b =
+    let end : depth (end_field b.first b.last).1 ≤ 0 =
+    one_or (has_size b.first b.last) (codes "size", num (b.last - b.first + 1)) (codes "last", num b.last) 0 (omega arith) (omega arith) in
+    object_within (block_fields b) 0 (omega arith, (end, inside_within b.inside))
+
+pub free_within : (blocks : List FreeBlock) → depth (free_data blocks) ≤ 3
+free_within blocks =
+    let list = array_within (map block_data blocks) 1 (all_mapped block_data 1 block_within blocks) in
+    object_within ((codes "freeblocks", array_of (map block_data blocks)) ∷ []) 2 (list, tt)

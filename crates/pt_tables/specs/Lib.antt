@@ -1,5 +1,6 @@
 pub mod Entries
 pub mod Fields
+pub mod Free
 pub mod Labels
 pub mod Records
 pub mod Text

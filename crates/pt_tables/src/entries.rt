@@ -51,8 +51,13 @@ pub(crate) fn put_guid(
     object.put_text(alloc, name, write_text(&bytes, &mut buffer))
 }
 
-// Puts how many sectors there are from the first to the last, or the last one.
-fn put_end(alloc: Global, object: &mut Object, first: u64, last: u64) -> Result<(), AllocError>
+/// Puts how many sectors there are from the first to the last, or the last one.
+pub(crate) fn put_end(
+    alloc: Global,
+    object: &mut Object,
+    first: u64,
+    last: u64,
+) -> Result<(), AllocError>
     ensures { OnOk result (members_in object.new ≡ with_fields (end_field first last ∷ []) (members_in object.old)) }
 {
     if first <= last && last - first < u64::MAX {

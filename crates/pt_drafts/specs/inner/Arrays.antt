@@ -5,10 +5,6 @@ use Rattle.std.specs.Prelude.{List, ◌++◌, drop, length, Option, option_map}
 abbrev pub written_over : {A : Type 0} → List A → List A → List A
 written_over empty ys = ys ++ drop (length ys) empty
 
--- what is left to come, behind what has come
-abbrev pub joined : {A : Type 0} → List A → Option (List A) → Option (List A)
-joined front rest = option_map (λ ys. front ++ ys) rest
-
 -- what values give, written over the beginning of a list
 abbrev pub filled : {A : Type 0} → List A → Option (List A) → Option (List A)
 filled empty o = option_map (written_over empty) o

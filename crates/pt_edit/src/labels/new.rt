@@ -43,7 +43,7 @@ fn new_type_of(code: &Option<Code>) -> Option<u8>
 }
 
 // Where a partition of a slice may stand.
-fn space_in(alloc: Global, label: Label, slice: &Member) -> Result<Space, AllocError>
+pub(crate) fn space_in(alloc: Global, label: Label, slice: &Member) -> Result<Space, AllocError>
     requires { slice.now.first < 2 ^ 66 }
     ensures { IfOk result (λ s. area_of s ≡ area_in label slice.now) }
 {

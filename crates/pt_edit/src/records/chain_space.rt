@@ -1,6 +1,6 @@
 //! Where a new logical partition is placed.
 
-ghost use Rattle.std.specs.Prelude.{◌≡◌, ◌≢◌, ◌≤◌, ◌<◌, ◌+◌, ◌-◌, ◌++◌, IfOk, IfErr, OnOk, flat_map};
+ghost use Rattle.std.specs.Prelude.{◌≡◌, ◌≢◌, ◌≤◌, ◌<◌, ◌+◌, ◌-◌, ◌^◌, ◌++◌, IfOk, IfErr, OnOk, flat_map};
 ghost use Rattle.pt_edit.specs.Space.{area_of, Placed, NotPlaced};
 ghost use Rattle.pt_edit.specs.Chains.{own_sector, taken_of, empty_sector, logical_area};
 
@@ -60,8 +60,9 @@ fn empties_in(alloc: Global, chain: &[Ebr]) -> Result<Vec<u64>, AllocError>
 }
 
 // Where logical partitions are placed in an extended one with this chain.
-fn space_in(alloc: Global, extended: &Record, chain: &[Ebr]) -> Result<Space, AllocError>
-    ensures { IfOk result (λ space. area_of space ≡ logical_area extended.now chain.now) }
+pub(crate) fn space_in(alloc: Global, extended: &Record, chain: &[Ebr]) -> Result<Space, AllocError>
+    ensures area { IfOk result (λ space. area_of space ≡ logical_area extended.now chain.now) }
+    ensures small { IfOk result (λ space. space.high < 2 ^ 64) }
 {
     let taken = taken_in(alloc, chain)?;
     let empties = empties_in(alloc, chain)?;

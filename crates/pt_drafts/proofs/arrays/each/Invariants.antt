@@ -1,7 +1,7 @@
 use Rattle.std.proofs.Common.{◌≡◌, map, drop}
 use Rattle.serde_json.specs.View.{view}
 use Rattle.pt_drafts.specs.Values.{all_of, whole}
-use Rattle.pt_drafts.specs.inner.Arrays.{joined}
+use Rattle.pt_drafts.proofs.Filling.{joined}
 use Rattle.pt_drafts.proofs.arrays.each.Given as goal
 
 abbrev pub invariant-loop-k : goal.invariant-loop-k

@@ -1,7 +1,7 @@
 use Rattle.std.proofs.Common.{◌≡◌, map, drop, take, length}
 use Rattle.serde_json.specs.View.{view}
 use Rattle.pt_drafts.specs.Values.{all_of}
-use Rattle.pt_drafts.specs.inner.Arrays.{joined}
+use Rattle.pt_drafts.proofs.Filling.{joined}
 use Rattle.pt_drafts.proofs.arrays.fill.Given as goal
 
 abbrev pub invariant-loop-k : goal.invariant-loop-k

@@ -1,7 +1,7 @@
 use Rattle.std.proofs.Common.{◌≡◌, ◌+◌, map, drop}
 use Rattle.serde_json.specs.View.{view}
 use Rattle.pt_drafts.specs.Tables.{parts_from}
-use Rattle.pt_drafts.specs.inner.Rows.{with_rest}
+use Rattle.pt_drafts.proofs.PartLists.{with_rest}
 use Rattle.pt_drafts.proofs.table.parts_of.Given as goal
 
 abbrev pub invariant-loop-k : goal.invariant-loop-k

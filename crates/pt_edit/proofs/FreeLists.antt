@@ -1,0 +1,59 @@
+-- Lists of blocks, place by place.
+use Rattle.std.proofs.Common.{◌≡◌, ◌∙◌, ◌<◌, ◌≤◌, ◌+◌, ℕ, List, [], ◌∷◌, ◌++◌, append-nil, append_assoc, length, get_or, take, ap, refl, subst, sym}
+use Rattle.std.specs.Prelude.{flat_map, map}
+use Rattle.std.proofs.lemmas.List.{flat_map_more, take_all, take_more}
+use Rattle.pt_edit.specs.declared.free.FreeBlock.{FreeBlock}
+use Rattle.pt_edit.specs.declared.space.space.Run.{Run}
+use Rattle.pt_edit.specs.Free.{AreFree, Place, block_of}
+use Rattle.pt_edit.specs.Space.{AreBlocks}
+use Rattle.pt_edit.specs.inner.Free.{Adds}
+
+free_append : (ps qs : List Place) (xs ys : List FreeBlock) → AreFree ps xs → AreFree qs ys → AreFree (ps ++ qs) (xs ++ ys)
+free_append [] qs xs ys is also = subst (λ (l : List FreeBlock). AreFree qs (l ++ ys)) (sym is) also
+free_append (p ∷ ps) qs xs ys is also =
+    let runs = is.0 in
+    let rest = is.1 in (
+      runs,
+      rest ++ ys,
+      is.2,
+      free_append ps qs rest ys is.3 also,
+      ap (λ (l : List FreeBlock). l ++ ys) is.4 ∙ append_assoc (map (block_of p.inside) runs) rest ys,
+    )
+
+-- nothing is added
+pub adds_none : (xs : List FreeBlock) → Adds [] xs xs
+adds_none xs ps is = subst (λ (l : List Place). AreFree l xs) (sym (append-nil ps)) is
+
+-- some, and then others
+pub adds_both : (ms ns : List Place) (xs ys zs : List FreeBlock) → Adds ms xs ys → Adds ns ys zs → Adds (ms ++ ns) xs zs
+adds_both ms ns xs ys zs one two ps is =
+    subst (λ (l : List Place). AreFree l zs) (append_assoc ps ms ns) (two (ps ++ ms) (one ps is))
+
+-- those of one place
+pub adds_one : (n : Place) (runs : List Run) (xs ys : List FreeBlock) → AreBlocks n.area runs → ys ≡ xs ++ map (block_of n.inside) runs
+    → Adds (n ∷ []) xs ys
+adds_one n runs xs ys are is ps so =
+    subst (λ (l : List FreeBlock). AreFree (ps ++ n ∷ []) l) (sym is)
+    (free_append ps (n ∷ []) xs (map (block_of n.inside) runs) so (runs, [], are, refl, sym (append-nil (map (block_of n.inside) runs))))
+
+-- all there are
+pub all_added : (ps : List Place) (ys : List FreeBlock) → Adds ps [] ys → AreFree ps ys
+all_added ps ys is = is [] refl
+
+-- those of one more of a list of things
+pub adds_more : {X : Type 0} (f : X → List Place) (os : List X) (k : ℕ) (z : X) (xs ys zs : List FreeBlock) → k < length os
+    → Adds (flat_map f (take k os)) xs ys → Adds (f (get_or os k z)) ys zs → Adds (flat_map f (take (k + 1) os)) xs zs
+adds_more f os k z xs ys zs within one two =
+    let same = flat_map_more f [] (take k os) (get_or os k z) ∙ ap (λ (l : List _). flat_map f l) (sym (take_more os k z within)) in
+    subst (λ (l : List Place). Adds l xs zs) same (adds_both (flat_map f (take k os)) (f (get_or os k z)) xs ys zs one two)
+
+-- those of all of them
+pub adds_all : {X : Type 0} (f : X → List Place) (os : List X) (k : ℕ) (xs ys : List FreeBlock) → length os ≤ k
+    → Adds (flat_map f (take k os)) xs ys → Adds (flat_map f os) xs ys
+adds_all f os k xs ys past is = subst (λ (l : List _). Adds (flat_map f l) xs ys) (take_all k os past) is
+
+-- those of one place, of some more, and of the rest
+pub all_three : (n : Place) (ms ns : List Place) (ws xs ys zs : List FreeBlock) → ws ≡ [] → Adds (n ∷ []) ws xs → Adds ms xs ys
+    → Adds ns ys zs → AreFree (n ∷ (ms ++ ns)) zs
+all_three n ms ns ws xs ys zs none one two three =
+    adds_both (n ∷ []) (ms ++ ns) ws xs zs one (adds_both ms ns xs ys zs two three) [] none
