@@ -6,6 +6,8 @@ pub use Rattle.pt_recover.specs.Denotes
 pub use Rattle.pt_members.specs.Members
 pub use Rattle.pt_members.specs.Rows
 pub use Rattle.pt_members.specs.Tables
+pub use Rattle.pt_edit.specs.Free
+pub use Rattle.pt_edit.specs.Space
 pub use Rattle.pt_layout.specs.Sound
 pub use Rattle.pt_layout.specs.Healthy
 pub use Rattle.pt_apply.specs.Plans
@@ -15,6 +17,7 @@ pub use Rattle.pt_plan.specs.Layouts
 pub use Rattle.pt_types.specs.Types
 pub use Rattle.pt_types.specs.Listing
 pub use Rattle.pt_tables.specs.Text
+pub use Rattle.pt_tables.specs.Free
 pub use Rattle.pt_drafts.specs.Tables
 pub use Rattle.pt_set.specs.Layouts
 pub use Rattle.pt_set.specs.Sets

@@ -9,7 +9,8 @@
 //!   it borrows, a [`ReadCache`] asks one for each sector once, and both take their [`Room`] beforehand. [`Moments`] are what a disk of
 //!   one's own keeps for the proofs.
 //! - **Look**: [`recover`] gives the [`Layout`], [`members`] lists its partitions, and [`Layout::rows`] walks over them, each with its
-//!   record or entry. [`free_blocks`] lists where a new one may lie, as [`Run`]s. [`locate`] and [`owner`] lead from a partition to a
+//!   record or entry. [`free_blocks`] lists where a new one may lie, as [`Run`]s, and [`all_free_blocks`]
+//!   also what is free inside the extended partition and slices, as [`FreeBlock`]s. [`locate`] and [`owner`] lead from a partition to a
 //!   sector and back, [`verify`] says whether the disk is healthy or what is wrong. [`recover_traced`] also gives the sectors that
 //!   decide the layout, and [`recover_from`] the layout of one copy of a GPT alone. Of a layout alone [`unsound`] tells what is wrong
 //!   with it, [`is_table`] and [`is_owned`] whose a sector is.
@@ -26,7 +27,7 @@
 //!   alone on a table at every moment ([`Primary`], docs/readers.md). Words, repairs and [`make_plan`] zero it; layouts from anywhere
 //!   keep it. [`plan_wanted`] and [`commit_wanted`] take what is [`Wanted`] and the choice; so do [`make_plan_by`],
 //!   [`plan_for_repair_by`], [`repair_by`], [`plan_like_by`] and [`commit_like_by`].
-//! - **Text**: [`table_text`] is a layout as JSON, in the manner of `sfdisk --json`. [`entry_type`] and [`record_type`] read the names of
+//! - **Text**: [`table_text`] is a layout as JSON, in the manner of `sfdisk --json`, and [`free_text`] free blocks. [`entry_type`] and [`record_type`] read the names of
 //!   partition types, [`entry_type_name`] and [`record_type_name`] give them, and [`types_text`] lists them. [`read_draft`] reads what a
 //!   text says of a table, [`table_for`] makes a layout of it, with what the text leaves out, and [`plan_draft`] and [`commit_draft`] plan
 //!   and commit that; the types of a draft are in the module [`drafts`].
@@ -74,7 +75,9 @@ pub use pt_edit::Code;
 pub use pt_edit::Edit;
 pub use pt_edit::EditError;
 pub use pt_edit::End;
+pub use pt_edit::FreeBlock;
 pub use pt_edit::Refusal;
+pub use pt_edit::all_free_blocks;
 pub use pt_edit::edit;
 pub use pt_edit::free_blocks;
 pub use pt_edit::guids_for;
@@ -156,6 +159,7 @@ pub use pt_set::SetError;
 pub use pt_set::commit_draft;
 pub use pt_set::plan_draft;
 pub use pt_set::table_for;
+pub use pt_tables::free_text;
 pub use pt_tables::table_text;
 pub use pt_types::EntryType;
 pub use pt_types::RecordType;
