@@ -27,10 +27,10 @@
 //!   alone on a table at every moment ([`Primary`], docs/readers.md). Words, repairs and [`make_plan`] zero it; layouts from anywhere
 //!   keep it. [`plan_wanted`] and [`commit_wanted`] take what is [`Wanted`] and the choice; so do [`make_plan_by`],
 //!   [`plan_for_repair_by`], [`repair_by`], [`plan_like_by`] and [`commit_like_by`].
-//! - **Text**: [`table_text`] is a layout as JSON, in the manner of `sfdisk --json`, and [`free_text`] free blocks. [`entry_type`] and [`record_type`] read the names of
-//!   partition types, [`entry_type_name`] and [`record_type_name`] give them, and [`types_text`] lists them. [`read_draft`] reads what a
-//!   text says of a table, [`table_for`] makes a layout of it, with what the text leaves out, and [`plan_draft`] and [`commit_draft`] plan
-//!   and commit that; the types of a draft are in the module [`drafts`].
+//! - **Text**: [`table_text`] is a layout as JSON, in the manner of `sfdisk --json`, and [`free_text`] free blocks. [`entry_type`] and
+//!   [`record_type`] read the names of partition types, [`entry_type_name`] and [`record_type_name`] give them, and [`types_text`] lists
+//!   them. [`read_draft`] reads what a text says of a table, [`table_for`] makes a layout of it, with what the text leaves out, and
+//!   [`plan_draft`] and [`commit_draft`] plan and commit that; the types of a draft are in the module [`drafts`].
 //! - **Formats**: the modules [`mbr`], [`gpt`], [`bsd`] and [`sums`] read and write single records, headers, entries and labels, and
 //!   have the types that a layout is built of.
 //!
