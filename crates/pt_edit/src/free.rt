@@ -1,6 +1,6 @@
 //! The sectors that no entry or record of a layout has yet, and those that no logical partition and no partition of a label has.
 
-ghost use Rattle.std.specs.Prelude.{◌≡◌, ◌<◌, ◌≤◌, ◌^◌, ◌++◌, ◌∷◌, [], All, IfOk, IfSome, OnOk, map};
+ghost use Rattle.std.specs.Prelude.{◌≡◌, ◌<◌, ◌^◌, ◌++◌, ◌∷◌, [], All, IfOk, OnOk, map};
 ghost use Rattle.pt_edit.specs.Free.{AreFree, block_of, extended_from, extended_places, free_area, free_places, place_of};
 ghost use Rattle.pt_edit.specs.Free.{slice_place, slice_places};
 ghost use Rattle.pt_edit.specs.Space.{area_of, AreBlocks};
