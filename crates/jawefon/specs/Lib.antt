@@ -17,8 +17,8 @@ pub use Rattle.pt_plan.specs.Layouts
 pub use Rattle.pt_types.specs.Types
 pub use Rattle.pt_types.specs.Listing
 pub use Rattle.pt_tables.specs.Text
-pub use Rattle.pt_tables.specs.Free
-pub use Rattle.pt_drafts.specs.Tables
-pub use Rattle.pt_set.specs.Layouts
+pub use Rattle.pt_tables.specs.Free as FreeTexts
+pub use Rattle.pt_drafts.specs.Tables as Drafts
+pub use Rattle.pt_set.specs.Layouts as DraftLayouts
 pub use Rattle.pt_set.specs.Sets
 pub use Rattle.pt_sector.specs.inner.ForFields
