@@ -51,10 +51,14 @@ def kinds():
 
 
 NUMBERS = (0, 1, 2, 3, 4, 5, 34, 40, 128, 129, 512, 2048, 4096, 4097, 8158, 8192, 2 ** 32, 2 ** 63 - 1, 2 ** 63, 2 ** 64 - 1, 2 ** 64)
-TEXTS = ("", "gpt", "dos", "sectors", "1", "128", "0x1", "1MiB", "100KiB", "0KiB", "1 MiB", "2TiB", "99999999999TiB", "disk1", "sda", "x p9",
-         "EF00", "ef00", "8300", "83", "ee", "linux", "swap", "freebsd", "A500", "none", LINUX, FREEBSD, "0" * 8 + "-0000-0000-0000-" + "0" * 12,
-         *UNIQUE, "a\u00fc\U0001f4be", "x" * 36, "x" * 37, "\U0001f4be" * 18, "\U0001f4be" * 19, "a\0b", "RequiredPartition", "GUID:60",
-         "GUID:60,48 LegacyBIOSBootable", "GUID:47", "GUID:", "feffff", "00" * 68, "0g")
+TEXTS = ("", "gpt", "dos", "sectors", "1", "128", "0x1", "1MiB", "100KiB", "0KiB", "1 MiB", "2TiB", "99999999999TiB", "disk1", "sda",
+         "x p9", "EF00", "ef00", "8300", "83", "ee", "linux", "swap", "freebsd", "A500", "none", LINUX, FREEBSD,
+         "0" * 8 + "-0000-0000-0000-" + "0" * 12, *UNIQUE, "RequiredPartition", "GUID:60", "GUID:60,48 LegacyBIOSBootable", "GUID:47",
+         "GUID:", "feffff", "00" * 68, "0g")
+NAMES = ("a\u00fc\U0001f4be", "x" * 36, "x" * 37, "\U0001f4be" * 18, "\U0001f4be" * 19, "a\0b")
+
+
+KINDS = ("EF00", "ef00", "8300", "linux", "swap", "freebsd", "freebsd", "A500", FREEBSD, LINUX, "root-alpha", UNIQUE[1])
 
 
 def drawn_label(rng, length):
@@ -69,13 +73,16 @@ def drawn_label(rng, length):
 
 
 def drawn_part(rng, k, most):
-    start, size = rng.choice((34, 2048, 3000 + 500 * k, 40 + 20 * k)), rng.choice((1, 10, 500, 1000, 2048))
-    part = {"number": rng.choice((k, k, k + 1, 4)), "start": start, "size": size, "type": rng.choice(TEXTS[16:30]), "uuid": rng.choice(UNIQUE)}
-    for name, values in (("node", ("disk.img3", "sdb", "p2")), ("name", TEXTS[32:37]), ("attributes", (0, 4, 2 ** 60 + 4, 8)),
+    start, size = rng.choice((34, 2048, 2048 + 1000 * k, 2048 + 1000 * k, 40 + 20 * k)), rng.choice((1, 10, 500, 1000, 1000))
+    part = {"number": rng.choice((k, k, k, 4)), "start": start, "size": size, "type": rng.choice(KINDS),
+            "uuid": UNIQUE[(k + rng.choice((0, 0, 0, 1))) % 4]}
+    for name, values in (("node", ("disk.img3", "sdb", "p2")), ("name", NAMES[:5]), ("attributes", (0, 4, 2 ** 60 + 4, 8)),
                          ("attrs", (None, "LegacyBIOSBootable", "GUID:60 LegacyBIOSBootable")), ("type_name", ("esp",)),
-                         ("bsd", (None, drawn_label(rng, size)))):
-        if rng.randrange(5) == 0:
+                         ("bsd", (None, drawn_label(rng, size), drawn_label(rng, size)))):
+        if rng.randrange(5) == 0 or name == "bsd" and part["type"] in ("freebsd", "A500", FREEBSD) and rng.randrange(2):
             part[name] = rng.choice(values)
+    if rng.randrange(8) and part["type"] not in ("freebsd", "A500", FREEBSD):
+        part.pop("bsd", None)
     for name in ("number", "start", "size", "type", "uuid"):
         if rng.randrange(3) == 0:
             del part[name]
@@ -103,7 +110,10 @@ def drawn(rng, sectors, image):
 
 def drawn_value(rng):
     return rng.choice((None, True, False, -1, 1.5, [], {}, [1, 2], [55357, 56510], ["x"], rng.choice(NUMBERS), rng.choice(TEXTS),
-                       rng.choice(TEXTS), rng.choice(NUMBERS), drawn_label(rng, 1000)))
+                       rng.choice((*TEXTS, *NAMES)), rng.choice(NUMBERS), drawn_label(rng, 1000)))
+
+
+INSERTED = (b",", b'"', b"{", b"]", b" ", b"\n", b"0", b"-", b"\\u0041", b"\\ud83d", b"e3", b".0", b"\xef\xbb\xbf")
 
 
 def objects(value):
@@ -116,7 +126,8 @@ def objects(value):
 
 def mutate(rng, table):
     """One member of one object is dropped, added, given another value, or exchanged."""
-    it = rng.choice(list(objects(table)))
+    all_objects = list(objects(table))
+    it = rng.choice(all_objects[1:] if len(all_objects) > 1 and rng.randrange(20) else all_objects)
     names = sorted(it)
     how = rng.randrange(7)
     if how == 0 and names:
@@ -145,7 +156,7 @@ def mangle(rng, text):
         elif how == 1:
             del content[at:at + rng.choice((1, 1, 5))]
         elif how == 2:
-            content[at:at] = rng.choice((b",", b'"', b"{", b"]", b" ", b"\n", b"0", b"-", b"\\u0041", b"\\ud83d", b"e3", b".0", b"\xef\xbb\xbf"))
+            content[at:at] = rng.choice(INSERTED)
         elif how == 3:
             content[at] ^= 1 << rng.randrange(8)
         elif how == 4:
@@ -161,8 +172,9 @@ def text_of(rng, sectors, image):
         mutate(rng, table)
     text = json.dumps(table, ensure_ascii=rng.randrange(2) == 0, indent=rng.choice((None, 2)))
     if rng.randrange(10) == 0:
-        twice = rng.choice(sorted(table.get("partitiontable") or {"x": 0})) if isinstance(table.get("partitiontable"), dict) else "x"
-        text = text.replace("{", f'{{"{twice}": 7, ', 2)
+        head, *others = text.split("{")
+        at = rng.randrange(len(others)) if others else 0
+        text = head + "".join((f'{{"{rng.choice((*OF_PART, *OF_TABLE))}": 7, ' if k == at else "{") + it for k, it in enumerate(others))
     return mangle(rng, text) if rng.randrange(6) == 0 else text.encode("utf-8", "surrogatepass")
 
 

@@ -240,9 +240,10 @@ def members(table):
     for number, it in table.entries.items():
         yield it.first, it.last, table.first, table.last, 0, is_slice(table.size, it)
         label = table.labels.get(number)
-        if not label or label["entries"][2] is None:
+        if not label:
             continue
-        base = 0 if label["entries"][2]["offset"] == it.first and it.first else it.first
+        raw = label["entries"][2]
+        base = 0 if raw and raw["offset"] else it.first
         for k, one in enumerate(label["entries"]):
             if k != 2 and one and one["size"]:
                 yield base + one["offset"], base + one["offset"] + one["size"] - 1, it.first + 16, it.last, number, False
@@ -280,10 +281,21 @@ def is_writable(label, first, length):
     return count >= 3 and not any(label["entries"][count:]) and raw["size"] == length and raw["offset"] in (0, first)
 
 
+def leaves_on(image, old):
+    """(first, last) of what an image's table gives away, but for slices and what lies in an extended partition."""
+    if old:
+        return [(first, last) for first, last, _, _, _, is_container in members(old) if not is_container]
+    records = []
+    for k in range(4) if is_mbr(image) else ():
+        kind, first, size = image[450 + 16 * k], *struct.unpack_from("<II", image, 454 + 16 * k)
+        records += [(first, first + size - 1)] if kind not in (0, 0x05, 0x0F, 0xA5) else []
+    return records
+
+
 def by_labels(image, old, table, is_healthy):
     """Why the labels of a table keep an image from taking it, or None: N of `refused: plan N`."""
     had = {it.first + 1: old.labels.get(number) for number, it in old.entries.items() if is_slice(old.size, it)} if old else {}
-    leaves = [it for it in old.entries.values() if not is_slice(old.size, it)] if old else []
+    leaves = leaves_on(image, old)
     slices = [(number, it) for number, it in table.entries.items() if is_slice(table.size, it)]
     wanted = {number: table.labels.get(number) for number, _ in slices}
     if any(label and it.first == it.last for (_, it), label in zip(slices, wanted.values())):
@@ -295,7 +307,7 @@ def by_labels(image, old, table, is_healthy):
     if any(label and not is_writable(label, it.first, it.last - it.first + 1) for (_, it), label in zip(slices, wanted.values())):
         return 1
     changed = [it.first + 1 for number, it in slices if wanted[number] is not None and had.get(it.first + 1) != wanted[number]]
-    if any(it.first <= place <= it.last for it in leaves for place in changed):
+    if any(first <= place <= last for first, last in leaves for place in changed):
         return 2
     if old and (table.entries, table.disk, table.first, table.last, table.count, table.sectors) == (
             old.entries, old.disk, old.first, old.last, old.count, old.sectors) and changed:
