@@ -335,7 +335,7 @@ def sets():
     yield "a name over another backup", unlinked, table(named), [33, 1, 32, 1], 2
     yield "no partitions", whole, table(), [33, 1, 32, 1], 2
     yield "a disk's GUID", whole, table(one, id=guid(9)), [33, 1], 2
-    yield "fewer entries", whole, table(one, entries=4), [33, 1, 32, 1], 2
+    yield "fewer entries", whole, table(one, entries=4), [33, 1], 2
     yield "the usable sectors", whole, table(one, firstlba=2048, lastlba=4062), [33, 1], 2
     yield "all of three changed", several, table(part(2048, 700), {"number": 5, **new}, {"number": 4, "start": 3500}), [33, 1, 32, 1], 2
     yield "numbers exchanged", several, table(part(3001, 1000), part(2048, 953), part(100, 101, number=4)), [33, 1, 32, 1], 2
@@ -354,6 +354,7 @@ def sets_of_slices():
     with_slice = SMALL.mbr(1024, [record(0xA5, 100, 500)])
     SMALL.put(with_slice, 101, label(500, {0: (100, 16, 7)}))
     linked = chain((100, ebr(link=record(0x05, 99, 101))), (199, ebr(record(0x83, 1, 100))))
+    linked[446:462] = record(0x83, 40, 50)
     blank = {"size": 0, "offset": 0, "fragment": 0, "fstype": 0, "frag": 0, "cpg": 0}
     other = {"kind": 0, "subtype": 0, "type_name": "00" * 16, "pack_name": "00" * 16, "geometry": [0] * 4, "unit": 1000, "kept": "00" * 68,
              "bbsize": 8192, "sbsize": 0, "entries": [{**blank, "size": 9, "offset": 16}, blank, {**blank, "size": 1000}, *[blank] * 5]}
