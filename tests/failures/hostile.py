@@ -1,8 +1,9 @@
 #!/usr/bin/env python3
 """Shows, verifies and locates in images that are valid but for bytes, sectors, sums and lengths changed at random by a fixed
 seed, half of them with their sums mended: every run ends in a named answer, the three answers go together, and no image is
-changed. Then each is repaired: it ends healthy with the partitions that it had and nothing else changed, or is refused and stays. The
-images are of every kind: GPT from either copy, MBR, chains, labels of both forms, both sector sizes.
+changed. Then each is repaired: it ends healthy with the partitions that it had and nothing else changed, or is refused and stays; and
+every fourth takes its own table as text, with the same end. The images are of every kind: GPT from either copy, MBR, chains, labels of
+both forms, both sector sizes.
 
 usage: tests/failures/hostile.py PTAB [COUNT [WORKERS]]
 """
@@ -214,6 +215,31 @@ def repair_fault(it, sectors, image, shown, verified):
     return None if len(after) == len(image) and all(after[part] == image[part] for part in kept) else "more than the tables was changed"
 
 
+def own_text_fault(it, sectors, image, shown, verified):
+    """What is wrong with how the image takes its own text, or None; it is as it was then. An MBR takes none yet."""
+    text = it.run("show", sectors, "--json")
+    with open(f"{it.path}.json", "w", encoding="utf-8") as file:
+        file.write(text[1])
+    found = it.run("set", sectors, f"{it.path}.json")
+    with open(it.path, "rb") as file:
+        after = file.read()
+    number = 0 if verified[1] == "yes\n" else int(verified[1].split(" ")[1])
+    unsound, done = (3, "", "refused: plan 4\n"), (0, "done\n", "")
+    allowed = [unsound] if number >= 7 else [done] if number == 0 else [done, unsound]
+    if number == 1:
+        allowed = [(3, "", "refused: table text\n")]
+    elif shown[1].startswith("mbr"):
+        allowed = [(3, "", "refused: table label\n")]
+    if found not in allowed:
+        return f"{found}"
+    if after == image:
+        return None if found != done or number == 0 else f"{found}: the image stays"
+    again = it.run("show", sectors), it.run("verify", sectors)
+    with open(it.path, "wb") as file:
+        file.write(image)
+    return None if found == done and number and again == (shown, (0, "yes\n", "")) else f"{found}: then {again}"
+
+
 def batch(job):
     ptab, seed, count, path = job
     rng = random.Random(seed)
@@ -233,6 +259,9 @@ def batch(job):
         with open(path, "rb") as file:
             if file.read() != image:
                 return f"{which}: the image was changed"
+        fault = own_text_fault(it, sectors, image, shown, verified) if number % 4 == 0 else None
+        if fault:
+            return f"{which}: {shown} {verified}: set: {fault}"
         fault = repair_fault(it, sectors, image, shown, verified)
         if fault:
             return f"{which}: {shown} {verified}: repair: {fault}"
