@@ -337,7 +337,8 @@ def sets():
     yield "a disk's GUID", whole, table(one, id=guid(9)), [33, 1], 2
     yield "fewer entries", whole, table(named, entries=4), [33, 1, 32, 1], 2
     yield "the usable sectors", whole, table(one, firstlba=2048, lastlba=4062), [33, 1], 2
-    yield "all of three changed", several, table(part(2048, 700), {"number": 5, **new}, {"number": 4, "start": 3500}), [33, 1, 32, 1], 2
+    parts = part(2048, 700), part(2900, 99, number=5, **new), {"number": 4, "start": 3500}
+    yield "all of three changed", several, table(*parts), [33, 1, 32, 1], 2
     yield "numbers exchanged", several, table(part(3001, 1000), part(2048, 953), part(100, 101, number=4)), [33, 1, 32, 1], 2
     yield "a grown disk", whole + SMALL.zeros(1000), table(one), [33, 1, 1], 2
     yield "a partition on a grown disk", whole + SMALL.zeros(1000), table(one, new), [33, 1, 32, 1, 1], 2

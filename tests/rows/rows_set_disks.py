@@ -143,6 +143,20 @@ def slices(command):
           more=[rest])
 
 
+def huge(command):
+    """A disk of 8 TiB: sizes past 32 bits, and the longest slice."""
+    count = 2 ** 34
+    for given, size, has in (({"size": "2TiB"}, 2 ** 32, {}), ({"size": 2 ** 33}, 2 ** 33, {}), ({}, count - 2048 - 33, {}),
+                             ({"size": 2 ** 32 - 1, "type": "freebsd"}, 2 ** 32 - 1,
+                              {"kind": FREEBSD, "bsd": told_label(2 ** 32 - 1, {})})):
+        path = file_of(command.on_sparse(count, {}), text_of([given]))
+        same(f"{given} of 8 TiB", command.run("set", "--fresh", FRESH, path), ("done\n", "", 0))
+        shows(command, wanted(command, [(1, 2048, size, DRAWN[1], has)], count, lastlba=count - 34)).healthy()
+    for given in ({"size": "8TiB"}, {"size": 2 ** 32, "type": "freebsd"}, {"size": "2TiB", "type": "freebsd"}, {"type": "freebsd"}):
+        path = file_of(command.on_sparse(count, {}), text_of([given]))
+        command.writes_nothing(["set", "--fresh", FRESH, path], "", "refused: table size 1\n", 3)
+
+
 def large(command):
     """Sectors of 4096 bytes, where no slice has a label."""
     it = command.large()
@@ -311,4 +325,4 @@ def files(command):
     shows(command, told).healthy()
 
 
-ROWS = (what_is_kept, fresh_guids, slices, large, mbr_disks, of_sfdisk, names_and_json, order, files)
+ROWS = (what_is_kept, fresh_guids, slices, huge, large, mbr_disks, of_sfdisk, names_and_json, order, files)
