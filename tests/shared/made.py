@@ -258,7 +258,7 @@ def is_sound(table):
             return False
         if any(parent == it[4] and first <= it[1] and it[0] <= last for it in all_members[:k]):
             return False
-        if first <= low or last >= high:
+        if first <= low or first < table.sectors and last >= high:
             return False
     return len({it.unique for it in table.entries.values()}) == len(table.entries)
 
