@@ -15,6 +15,7 @@ import sys
 
 sys.path.insert(0, os.path.join(os.path.dirname(os.path.abspath(__file__)), "..", "shared"))
 import images
+from compared import content, put
 from drafts import OF_LABEL, OF_LABEL_ENTRY, OF_PART, OF_TABLE, Fault, fresh_guids
 from images import FREEBSD, LARGE, LINUX, SMALL, entry, guid, label, record, room
 from made import shown, wanted_of
@@ -186,56 +187,54 @@ def expected(content, fresh, image, sectors, is_healthy):
         return fault.answer, None
 
 
+def ran(it, command, sectors, *words):
+    status, out, err = it.run(command, sectors, *words)
+    return out, err, status
+
+
 def fault_of(it, sectors, image, content, is_healthy, is_written, fresh):
-    """What is wrong with an answer, or None."""
+    """(what is wrong with an answer or None, whether the text was taken)"""
+    put(f"{it.path}.json", content)
     answer, table = expected(content, fresh_guids(fresh), image, sectors, is_healthy)
-    found = it.run("set", sectors, *([] if is_written else ["--plan"]), "--fresh", fresh, it.table)
+    found = ran(it, "set", sectors, *([] if is_written else ["--plan"]), "--fresh", fresh, f"{it.path}.json")
     if answer is not None:
-        return None if found == answer else f"found {found}, wanted {answer}"
+        return None if found == answer else f"found {found}, wanted {answer}", False
     if found[1:] != ("", 0) or is_written and found[0] != "done\n":
-        return f"found {found}, wanted {table}"
+        return f"found {found}, wanted {table}", False
     wanted = json.dumps(shown(table, it.path), indent=2, sort_keys=True, ensure_ascii=False) + "\n"
     if is_written:
-        after = it.run("show", sectors, "--json"), it.run("verify", sectors)
-        return None if after == ((wanted, "", 0), ("yes\n", "", 0)) else f"left {after}, wanted {wanted}"
-    with open(f"{it.path}.plan", "w", encoding="ascii") as file:
-        file.write(found[0])
-    checked = it.run("check", sectors, f"{it.path}.plan")
-    after = it.run("show", sectors, "--json", "--after", f"{it.path}.plan")
+        after = ran(it, "show", sectors, "--json"), ran(it, "verify", sectors)
+        return None if after == ((wanted, "", 0), ("yes\n", "", 0)) else f"left {after}, wanted {wanted}", True
+    plan = put(f"{it.path}.plan", found[0].encode("ascii"))
+    checked, after = ran(it, "check", sectors, plan), ran(it, "show", sectors, "--json", "--after", plan)
     if checked[0][:4] != "yes " or checked[1:] != ("", 0) or after != (wanted, "", 0):
-        return f"its plan: {checked}, leaves {after}, wanted {wanted}"
-    return None
+        return f"its plan: {checked}, leaves {after}, wanted {wanted}", True
+    return None, True
 
 
 def batch(job):
-    """(how many ended in a table, what is wrong or None)"""
+    """(how many were taken, what is wrong or None)"""
     ptab, seed, count, path = job
     rng = random.Random(seed)
-    done = 0
     sectors, image, is_healthy = list(kinds())[seed % 10]
-    image = bytes(image)
-    it = Runner(ptab, path)
-    with open(path, "wb") as file:
-        file.write(image)
+    image, taken = bytes(image), 0
+    it = Runner(ptab, put(path, image))
     for number in range(count):
-        content = text_of(rng, sectors, image)
-        is_written = rng.randrange(5) == 0
-        fresh = FRESH[:32 * rng.choice((6, 6, 6, 6, 1, 0))]
-        with open(it.table, "wb") as file:
-            file.write(content)
-        fault = fault_of(it, sectors, image, content, is_healthy, is_written, fresh)
+        text, is_written, fresh = text_of(rng, sectors, image), rng.randrange(5) == 0, FRESH[:32 * rng.choice((6, 6, 6, 6, 1, 0))]
+        fault, is_taken = fault_of(it, sectors, image, text, is_healthy, is_written, fresh)
+        which = f"seed {seed}, text {number}, fresh {len(fresh) // 32}, {'written' if is_written else 'planned'}: {text}"
         if fault:
-            return 0, f"seed {seed}, text {number}, fresh {len(fresh) // 32}, {'written' if is_written else 'planned'}: {content}\n{fault}"
-        with open(path, "rb") as file:
-            after = file.read()
-        if after != image:
-            if not is_written or it.status != 0:
-                return 0, f"seed {seed}, text {number}: {content}: the image was changed"
-            with open(path, "wb") as file:
-                file.write(image)
-        done += it.status == 0
+            return 0, f"{which}\n{fault}"
+        if is_written and is_taken:
+            put(path, image)
+        elif content(path) != image:
+            return 0, f"{which}: the image was changed"
+        taken += is_taken
     it.close()
-    return done, None
+    for name in ("", ".json", ".plan", ".out", ".err"):
+        if os.path.exists(f"{path}{name}"):
+            os.remove(f"{path}{name}")
+    return taken, None
 
 
 def main():
