@@ -246,7 +246,7 @@ def usage(ptab, image):
                   ["--no-lock", "repair", image], ["show", image, "--after"], ["show", "--after", "", "--after", "", image],
                   ["verify", "--after", image, image], ["check", "--after", image, image, image],
                   ["show", "--json"], ["show", "--json", image, image], ["show", "--json", "--json", image], ["show", "--json=1", image],
-                  ["show", "--jso", image], ["--json", "show", image], ["verify", "--json", image], ["free", "--json", image],
+                  ["show", "--jso", image], ["--json", "show", image], ["verify", "--json", image], ["free", "--jso", image],
                   ["locate", "--json", image, "1", "0"], ["plan", "--json", image, "c:1:x"], ["types", image], ["types", "gpt"],
                   ["types", ""], ["types", "--json"], ["types", "--device"], ["types", "--sector-size", "512"], ["types", "--no-lock"],
                   ["types", "types"], ["types", "--after", image], ["type"], ["Types"], ["--types"],
