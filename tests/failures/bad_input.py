@@ -12,6 +12,7 @@ sys.path.insert(0, os.path.join(os.path.dirname(os.path.abspath(__file__)), ".."
 from images import one_partition, room
 
 MOST = 8 * 1024 * 1024
+TABLE = b'{"partitiontable": {"id": "00000000-0000-4000-8000-000000000009"}}'
 IN_USE_ALONE = "error: the argument '--in-use' needs '--device'\n\nFor more information, try '--help'.\n"
 checked = 0
 
@@ -52,8 +53,10 @@ def gpt(folder):
 
 def not_images(ptab, folder):
     missing = f"{folder}/missing"
-    plan = file_of(folder, "no_plan", b"")
+    plan, table = file_of(folder, "no_plan", b""), file_of(folder, "table", TABLE)
     for path in (missing, folder, "/dev/null", f"{folder}/a/b"):
+        for words in ([], ["--plan"], ["--by-table"], ["--no-lock"], ["--fresh", ""]):
+            expect(ptab, ["set", *words, path, table], path, "", "device\n", 5)
         for command in (["show", path], ["show", "--json", path], ["verify", path], ["locate", path, "1", "0"], ["free", path],
                         ["edit", path, "c:1:x"], ["plan", path, "c:1:x"], ["check", path, plan], ["apply", path, plan], ["repair", path]):
             expect(ptab, command, path, "", "device\n", 5)
@@ -70,10 +73,44 @@ def not_images(ptab, folder):
             expect(ptab, command, path, "", "no table: too small\n", 4)
         expect(ptab, ["check", path, plan], path, "no 8 1\n", "", 1)
         expect(ptab, ["apply", path, plan], path, "no 8 1\n", "", 1)
+        for words in ([], ["--plan"]):
+            expect(ptab, ["set", *words, path, table], path, "", "refused: plan 1\n", 3)
     text = file_of(folder, "long_text", b"no table here either, but more of it\n" * 4000)
     expect(ptab, ["show", text], text, "", "no table: copies 1 1\n", 4)
     expect(ptab, ["edit", text, "c:1:x"], text, "", "no table: copies 1 1\n", 4)
     expect(ptab, ["repair", text], text, "", "no table: copies 1 1\n", 4)
+
+
+# (a text, what is told of it): no tables
+NO_TEXT, NO_TABLE, TOO_LONG = "refused: table text", "refused: table partitiontable", "table: too long"
+NO_TABLES = ((b"", NO_TEXT), (b"\0", NO_TEXT), (TABLE[:-1], NO_TEXT), (b"\xff", "table: not text"), (TABLE + b"\x80", "table: not text"),
+             (b"null", NO_TABLE), (b'{"partitiontable": {"unit": 1}}', "refused: table unit"),
+             (b'{"partitiontable": {"partitions": [{}, {"size": "1"}]}}', "refused: table size 2"))
+LONG_ONES = ((bytes(MOST), NO_TEXT), (bytes(MOST + 1), TOO_LONG), (b"\xff" * MOST, "table: not text"), (b"\xff" * (MOST + 1), TOO_LONG),
+             (b"[" * MOST, NO_TEXT), (b'{"":' * 20_000, NO_TEXT), (b"9" * MOST, NO_TEXT), (b" " * MOST, NO_TEXT),
+             (b'"' + b"x" * (MOST - 2) + b'"', NO_TABLE), (b"[" + b"0," * 20_000 + b"0]", NO_TABLE),
+             (b'{"partitiontable": {"partitions": [' + b"{}," * 20_000 + b"7]}}", "refused: table partitions 20001"),
+             (b'{"partitiontable": {' + b'"partitions": 7, ' * 20_000 + b'"entries": "x"}}', "refused: table entries"))
+
+
+def tables(ptab, folder):
+    """Files that hold no table, before an image that is missing: each is told before the image is opened."""
+    missing, image, table = f"{folder}/missing", file_of(folder, "for_tables", one_partition()), file_of(folder, "table", TABLE)
+    for words in ([], ["--plan"], ["--by-table"], ["--device"], ["--device", "--in-use"]):
+        for path in (missing, folder, f"{folder}/a/b", "", f"{table}/"):
+            expect(ptab, ["set", *words, missing, path], missing, "", "table: device\n", 5)
+            expect(ptab, ["set", *words, image, path], image, "", "table: device\n", 5)
+            expect(ptab, ["set", *words, "--fresh", "0", missing, path], missing, "", "bad fresh\n", 2)
+        for text, told in (*NO_TABLES, *(() if words else LONG_ONES)):
+            path, status = file_of(folder, "text", text), 3 if told.startswith("refused") else 2
+            expect(ptab, ["set", *words, missing, path], missing, "", f"{told}\n", status)
+            expect(ptab, ["set", *words, image, path], image, "", f"{told}\n", status)
+    os.truncate(file_of(folder, "text", b""), 2 ** 40)
+    expect(ptab, ["set", image, f"{folder}/text"], image, "", f"{TOO_LONG}\n", 2)
+    expect(ptab, ["set", image, "/dev/null"], image, "", f"{NO_TEXT}\n", 3)
+    expect(ptab, ["set", image, "/dev/zero"], image, "", f"{TOO_LONG}\n", 2)
+    many = b'{"partitiontable": {"partitions": [' + b"{}," * 20_000 + b"{}]}}"
+    expect(ptab, ["set", image, file_of(folder, "text", many)], image, "", "refused: table partitions\n", 3)
 
 
 WORDS = ("", "x", "z:1:x", "cc:1:x", "N:1:0:0",
@@ -92,9 +129,10 @@ WORDS = ("", "x", "z:1:x", "cc:1:x", "N:1:0:0",
 def no_devices(ptab, folder):
     """With `--device` what is no block device; and `--in-use` without it."""
     image, plan = file_of(folder, "plain.img", one_partition()), file_of(folder, "no_plan", b"")
+    table = file_of(folder, "table", TABLE)
     for command, *words in (["show"], ["show", "--after", plan], ["show", "--json"], ["verify"], ["locate", "1", "0"], ["free"],
                             ["edit", "c:1:x"], ["plan", "c:1:x"], ["check", plan], ["apply", plan], ["repair"], ["adopt", image],
-                            ["adopt", "--plan", image]):
+                            ["adopt", "--plan", image], ["set", table], ["set", "--plan", table]):
         for size in ([], ["--sector-size", "512"], ["--sector-size=4096"]):
             for path in (image, folder, "/dev/null"):
                 expect(ptab, [command, "--device", *size, path, *words], image, "", "device: not a block device\n", 5)
@@ -192,7 +230,8 @@ def plans(ptab, folder):
 
 def usage(ptab, image):
     commands = (["show", image], ["show", "--json", image], ["verify", image], ["locate", image, "1", "0"], ["free", image],
-                ["edit", image, "c:1:x"], ["plan", image, "c:1:x"], ["check", image, image], ["apply", image, image], ["repair", image])
+                ["edit", image, "c:1:x"], ["plan", image, "c:1:x"], ["check", image, image], ["apply", image, image], ["repair", image],
+                ["set", image, image], ["set", "--plan", image, image])
     for words in ([], ["show"], ["verify"], ["locate", image], ["locate", image, "1"], ["locate", image, "1", "0", "0"],
                   ["free"], ["free", image, image], ["free", "--no-lock", image], ["edit", image], ["nothing"], ["nothing", image],
                   ["show", image, image], ["show", "--depth", image],
@@ -207,10 +246,16 @@ def usage(ptab, image):
                   ["--no-lock", "repair", image], ["show", image, "--after"], ["show", "--after", "", "--after", "", image],
                   ["verify", "--after", image, image], ["check", "--after", image, image, image],
                   ["show", "--json"], ["show", "--json", image, image], ["show", "--json", "--json", image], ["show", "--json=1", image],
-                  ["show", "--jso", image], ["--json", "show", image], ["verify", "--json", image], ["free", "--json", image],
+                  ["show", "--jso", image], ["--json", "show", image], ["verify", "--json", image], ["free", "--jso", image],
                   ["locate", "--json", image, "1", "0"], ["plan", "--json", image, "c:1:x"], ["types", image], ["types", "gpt"],
                   ["types", ""], ["types", "--json"], ["types", "--device"], ["types", "--sector-size", "512"], ["types", "--no-lock"],
-                  ["types", "types"], ["types", "--after", image], ["type"], ["Types"], ["--types"]):
+                  ["types", "types"], ["types", "--after", image], ["type"], ["Types"], ["--types"],
+                  ["set"], ["set", image], ["set", image, image, image], ["set", "--plan", "--plan", image, image],
+                  ["set", "--fresh", image],
+                  ["set", image, image, "--fresh"], ["set", "--keep-primary", image, image], ["set", "--other-device", image, image],
+                  ["set", "--json", image, image], ["set", "--after", image, image], ["set", "--table", image, image],
+                  ["set", "--by-table", "--by-table", image, image], ["set", "--no-lock=1", image, image], ["Set", image, image],
+                  ["sets", image, image], ["set", "--fresh", "", "--fresh", "", image, image]):
         expect(ptab, words, image, "", None, 2)
     for words in commands:
         for size in ("1024", "0512", "0", "", "8192", "512 "):
@@ -234,7 +279,8 @@ def not_text(ptab, folder):
              [b"edit", image, b"c:1:\xe9t\xe9"], [b"edit", image, b"d:1", b"\xed\xa0\x80"], [b"edit", image, b"x", b"\xc0\x80"],
              [b"edit", image, b"--fresh", b"\x80", b"c:1:x"], [b"locate", image, b"\xf5", b"x"],
              [b"show", image, b"--sector-size", b"\xfe"], [b"show", image, b"--\xff"], [b"\xff"], [b"--help", b"\xff"],
-             [b"repair", image, b"--no-lock", b"\xff"], [b"show", b"--json", bad], [b"types", b"\xff"], [b"types", bad]]
+             [b"repair", image, b"--no-lock", b"\xff"], [b"show", b"--json", bad], [b"types", b"\xff"], [b"types", bad],
+             [b"set", bad, plan], [b"set", image, bad], [b"set", b"--plan", image, bad], [b"set", image, b"--fresh", b"\x80", plan]]
     for words in lines:
         done = subprocess.run(["strace", "-qq", "-e", "trace=file,flock", "-o", log, ptab, *words], capture_output=True)
         found = done.stdout, done.stderr, done.returncode
@@ -251,19 +297,20 @@ def read_only(ptab, folder):
     write every file, so what root tests is run as nobody, who has to reach the program and the image."""
     global checked
     image = file_of(folder, "read_only", one_partition())
-    plan = file_of(folder, "no_plan", b"")
+    plan, table = file_of(folder, "no_plan", b""), file_of(folder, "table", TABLE)
     program, who = ptab, {}
     if os.geteuid() == 0:
         program, who = shutil.copy(ptab, f"{folder}/ptab"), {"user": 65534, "group": 65534, "extra_groups": []}
         os.chmod(folder, 0o755)
     os.chmod(plan, 0o444)
+    os.chmod(table, 0o444)
     for mode, status in ((0o444, 0), (0o000, 5)):
         os.chmod(image, mode)
         for words, refused in ((["show", image], False), (["show", "--json", image], False), (["verify", image], False),
                                (["locate", image, "1", "0"], False), (["free", image], False),
                                (["plan", image, "c:1:x"], False), (["check", image, plan], False),
                                (["edit", image, "c:1:x"], True), (["edit", image, "a:1"], True), (["apply", image, plan], True),
-                               (["repair", image], True)):
+                               (["repair", image], True), (["set", "--plan", image, table], False), (["set", image, table], True)):
             done = subprocess.run([program, *words], capture_output=True, text=True, **who)
             if done.returncode != (5 if refused else status) or done.returncode == 5 and (done.stdout, done.stderr) != ("", "device\n"):
                 sys.exit(f"ptab {' '.join(words)} of an image with mode {mode:o}: {done.stdout}{done.stderr}status {done.returncode}")
@@ -283,6 +330,7 @@ def main():
         bad_words(ptab, image)
         refusals(ptab, image)
         plans(ptab, folder)
+        tables(ptab, folder)
         usage(ptab, image)
         not_text(ptab, folder)
     print(f"bad input: {checked} passed, 0 failed")

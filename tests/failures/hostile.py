@@ -1,8 +1,9 @@
 #!/usr/bin/env python3
 """Shows, verifies and locates in images that are valid but for bytes, sectors, sums and lengths changed at random by a fixed
 seed, half of them with their sums mended: every run ends in a named answer, the three answers go together, and no image is
-changed. Then each is repaired: it ends healthy with the partitions that it had and nothing else changed, or is refused and stays. The
-images are of every kind: GPT from either copy, MBR, chains, labels of both forms, both sector sizes.
+changed. Then each is repaired: it ends healthy with the partitions that it had and nothing else changed, or is refused and stays; and
+every fourth takes its own table as text, with the same end. The images are of every kind: GPT from either copy, MBR, chains, labels of
+both forms, both sector sizes.
 
 usage: tests/failures/hostile.py PTAB [COUNT [WORKERS]]
 """
@@ -17,6 +18,7 @@ import zlib
 sys.path.insert(0, os.path.join(os.path.dirname(os.path.abspath(__file__)), "..", "shared"))
 import images
 from images import LARGE, SMALL, ebr, entry, guid, label, record, room
+from replies import Runner
 
 NUMBER = r"\d+"
 PLACE = r"\d+(\.[a-h])?"
@@ -146,26 +148,6 @@ def hostile(rng):
     return sectors, bytes(image)
 
 
-class Runner:
-    """Runs the command with its streams in two files, which is cheaper than pipes."""
-
-    def __init__(self, ptab, path):
-        self.ptab = ptab
-        self.path = path
-        self.streams = [os.open(f"{path}.{name}", os.O_RDWR | os.O_CREAT | os.O_TRUNC, 0o600) for name in ("out", "err")]
-
-    def run(self, command, sectors, *words):
-        """(status, output, errors); a negative status is that of a signal."""
-        for stream in self.streams:
-            os.ftruncate(stream, 0)
-            os.lseek(stream, 0, os.SEEK_SET)
-        actions = [(os.POSIX_SPAWN_DUP2, stream, number) for number, stream in enumerate(self.streams, 1)]
-        line = [self.ptab, command, "--sector-size", str(sectors.size), self.path, *words]
-        child = os.posix_spawn(self.ptab, line, {}, file_actions=actions)
-        status = os.waitstatus_to_exitcode(os.waitpid(child, 0)[1])
-        return (status, *(os.pread(stream, os.fstat(stream).st_size, 0).decode("utf-8") for stream in self.streams))
-
-
 def named(shown, verified):
     """Whether both answers are named ones that go together."""
     if shown[0] == 0 and not (SHOWN.fullmatch(shown[1]) and shown[2] == ""):
@@ -214,6 +196,31 @@ def repair_fault(it, sectors, image, shown, verified):
     return None if len(after) == len(image) and all(after[part] == image[part] for part in kept) else "more than the tables was changed"
 
 
+def own_text_fault(it, sectors, image, shown, verified):
+    """What is wrong with how the image takes its own text, or None; it is as it was then. An MBR takes none yet."""
+    text = it.run("show", sectors, "--json")
+    with open(f"{it.path}.json", "w", encoding="utf-8") as file:
+        file.write(text[1])
+    found = it.run("set", sectors, f"{it.path}.json")
+    with open(it.path, "rb") as file:
+        after = file.read()
+    number = 0 if verified[1] == "yes\n" else int(verified[1].split(" ")[1])
+    unsound, done = (3, "", "refused: plan 4\n"), (0, "done\n", "")
+    allowed = [unsound] if number >= 7 else [done] if number == 0 else [done, unsound]
+    if number == 1:
+        allowed = [(3, "", "refused: table text\n")]
+    elif shown[1].startswith("mbr"):
+        allowed = [(3, "", "refused: table label\n")]
+    if found not in allowed:
+        return f"{found}"
+    if after == image:
+        return None if found != done or number == 0 else f"{found}: the image stays"
+    again = it.run("show", sectors), it.run("verify", sectors)
+    with open(it.path, "wb") as file:
+        file.write(image)
+    return None if found == done and number and again == (shown, (0, "yes\n", "")) else f"{found}: then {again}"
+
+
 def batch(job):
     ptab, seed, count, path = job
     rng = random.Random(seed)
@@ -233,11 +240,13 @@ def batch(job):
         with open(path, "rb") as file:
             if file.read() != image:
                 return f"{which}: the image was changed"
+        fault = own_text_fault(it, sectors, image, shown, verified) if number % 4 == 0 else None
+        if fault:
+            return f"{which}: {shown} {verified}: set: {fault}"
         fault = repair_fault(it, sectors, image, shown, verified)
         if fault:
             return f"{which}: {shown} {verified}: repair: {fault}"
-    for stream in it.streams:
-        os.close(stream)
+    it.close()
     os.remove(path)
     return None
 

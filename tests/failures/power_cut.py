@@ -1,13 +1,14 @@
 #!/usr/bin/env python3
-"""Cuts the power in each phase of real edits, of every kind of table. The writes and syncs of the built command on an image are
-taken down by strace; then, for each phase, images that hold the phases before and any choice of this phase's writes are shown: the
-old layout (or none, where there was none) before the phase that switches, the new one after it, one of the two in it; and a repair of
-them keeps what they show and leaves them healthy. Where the primary copy is kept, a plain reader of it finds the old table and then the
-new one, and turns with the same write. Repairs of every kind of damage are cut the same way: each such image has the layout
-that was there, and a repair of it ends as the whole one.
+"""Cuts the power in each phase of real edits, of every kind of table, and of tables that texts say (`set`). The writes and syncs of the
+built command on an image are taken down by strace; then, for each phase, images that hold the phases before and any choice of this phase's
+writes are shown: the old layout (or none, where there was none) before the phase that switches, the new one after it, one of the two in
+it; and a repair of them keeps what they show and leaves them healthy. Where the primary copy is kept, a plain reader of it finds the old
+table and then the new one, and turns with the same write. Repairs of every kind of damage are cut the same way: each such image has the
+layout that was there, and a repair of it ends as the whole one.
 
 usage: tests/failures/power_cut.py PTAB
 """
+import json
 import os
 import random
 import subprocess
@@ -62,18 +63,18 @@ class Followed:
         checked += 1
 
 
-def cut(ptab, folder, name, image, words, counts, switch, sectors=SMALL):
-    """Edits the image, and stops it in each phase."""
+def cut(ptab, folder, name, image, words, counts, switch, sectors=SMALL, command="edit"):
+    """Edits the image, or sets its table, and stops it in each phase."""
     global checked
     path = f"{folder}/image"
     with open(path, "wb") as it:
         it.write(image)
-    phases = [phase for phase in recorded(ptab, path, "edit", words, sectors) if phase]
+    phases = [phase for phase in recorded(ptab, path, command, words, sectors) if phase]
     with open(path, "rb") as it:
         after = it.read()
     if [len(phase) for phase in phases] != counts:
         sys.exit(f"{name}: phases of {[len(phase) for phase in phases]} writes, not of {counts}")
-    keeps = "--keep-primary" in words
+    keeps = "--keep-primary" in words if command == "edit" else "--by-table" not in words
     old, new = shown(ptab, path, image, sectors), shown(ptab, path, after, sectors)
     tables = Followed(image, after, sectors) if keeps else None
     if old == new or shown(ptab, path, after, sectors, "verify")[0] != "yes\n":
@@ -311,6 +312,76 @@ def on_large_sectors():
     yield "an MBR to a GPT", mbr, f"{FRESH} g", [10, 1], 2
 
 
+def table(*partitions, **members):
+    """A text of these partitions."""
+    return json.dumps({"partitiontable": {**members, "partitions": partitions}})
+
+
+def part(start, size, **members):
+    return {"start": start, "size": size, **members}
+
+
+def sets():
+    """(name, image, the text of a table, the number of writes in each phase, the phase that switches), the primary copy kept."""
+    one, named = part(2048, 2015), part(2048, 2015, name="data")
+    whole, blank, new = one_partition(), SMALL.zeros(4096), {"uuid": guid(7)}
+    broken, bare, unlinked = bytearray(whole), bytearray(blank), bytearray(whole)
+    broken[SMALL.size] ^= 0xFF
+    SMALL.put(bare, 1, b"something")
+    SMALL.put_side(unlinked, "backup", {1: entry(2048, 4062, name="other")})
+    several = SMALL.gpt(4096, {1: entry(2048, 3000), 2: entry(3001, 4000, unique=guid(2)), 4: entry(100, 200, unique=guid(4))})
+    yield "a name", whole, table(named), [33, 1, 32, 1], 2
+    yield "a name from the backup", broken, table(named), [1, 32, 1, 33], 3
+    yield "a name over another backup", unlinked, table(named), [33, 1, 32, 1], 2
+    yield "no partitions", whole, table(), [33, 1, 32, 1], 2
+    yield "a disk's GUID", whole, table(one, id=guid(9)), [33, 1], 2
+    yield "fewer entries", whole, table(named, entries=4), [33, 1, 32, 1], 2
+    yield "the usable sectors", whole, table(one, firstlba=2048, lastlba=4062), [33, 1], 2
+    parts = part(2048, 700), part(2900, 99, number=5, **new), {"number": 4, "start": 3500}
+    yield "all of three changed", several, table(*parts), [33, 1, 32, 1], 2
+    yield "numbers exchanged", several, table(part(3001, 1000), part(2048, 953), part(100, 101, number=4)), [33, 1, 32, 1], 2
+    yield "a grown disk", whole + SMALL.zeros(1000), table(one), [33, 1, 1], 2
+    yield "a partition on a grown disk", whole + SMALL.zeros(1000), table(one, new), [33, 1, 32, 1, 1], 2
+    yield "a new table", blank, table(id=guid(9)), [1, 33, 1], 1
+    yield "a new table with a partition", blank, table(new, id=guid(9)), [32, 1, 33, 1], 2
+    yield "a new table over something", bare, table(new, id=guid(9)), [1, 32, 1, 33, 1], 3
+
+
+def sets_of_slices():
+    """The same of labels, and in place of an MBR."""
+    sliced, empty, mbr = SMALL.gpt(2048, {1: entry(100, 1099, FREEBSD)}), SMALL.gpt(2048, {}), SMALL.mbr(1024, [record(0x83, 100, 100)])
+    SMALL.put(sliced, 101, label(1000, {0: (100, 16, 7)}))
+    slice_of, gpt = part(100, 1000, type="freebsd"), {"label": "gpt", "id": guid(9)}
+    with_slice = SMALL.mbr(1024, [record(0xA5, 100, 500)])
+    SMALL.put(with_slice, 101, label(500, {0: (100, 16, 7)}))
+    linked = chain((100, ebr(link=record(0x05, 99, 101))), (199, ebr(record(0x83, 1, 100))))
+    linked[446:462] = record(0x83, 40, 50)
+    blank = {"size": 0, "offset": 0, "fragment": 0, "fstype": 0, "frag": 0, "cpg": 0}
+    other = {"kind": 0, "subtype": 0, "type_name": "00" * 16, "pack_name": "00" * 16, "geometry": [0] * 4, "unit": 1000, "kept": "00" * 68,
+             "bbsize": 8192, "sbsize": 0, "entries": [{**blank, "size": 9, "offset": 16}, blank, {**blank, "size": 1000}, *[blank] * 5]}
+    yield "a slice", empty, table({**slice_of, "uuid": guid(7)}), [34, 1, 32, 1], 2
+    yield "a slice that is kept", sliced, table({**slice_of, "name": "bsd"}), [33, 1, 32, 1], 2
+    yield "a deleted slice", sliced, table(), [33, 1, 32, 1], 2
+    yield "another label", sliced, table({**slice_of, "bsd": other}), [1], 1
+    yield "a GPT in place of an MBR", mbr, table(part(100, 100, uuid=guid(7)), **gpt), [66, 1], 2
+    yield "one in place of an MBR with a slice", with_slice, table(**gpt), [66, 1], 2
+    yield "one in place of logicals, with a slice", linked, table(part(300, 99, uuid=guid(7), type="A500"), **gpt), [67, 1], 2
+
+
+def sets_by_table():
+    whole = one_partition()
+    yield "a name", whole, table(part(2048, 2015, name="data")), [33, 1, 32, 1], 2
+    yield "a new table with a partition", SMALL.zeros(4096), table({"uuid": guid(7)}, id=guid(9)), [1, 32, 1, 33, 1], 3
+    yield "a grown disk", whole + SMALL.zeros(1000), table(part(2048, 2015)), [33, 1, 32, 1, 1], 2
+
+
+def sets_on_large_sectors():
+    whole = LARGE.gpt(64, {1: entry(6, 40)})
+    yield "a name", whole, table(part(6, 35, name="data")), [5, 1, 4, 1], 2
+    yield "a grown disk", whole + LARGE.zeros(10), table(part(6, 35)), [5, 1, 1], 2
+    yield "a new table", LARGE.zeros(64), table(part(6, 9, uuid=guid(7)), id=guid(9)), [4, 1, 5, 1], 2
+
+
 def repair_cut(ptab, folder, damage, sectors):
     """Repairs a damaged image, stops that in each phase, and repairs what is left."""
     global checked
@@ -377,6 +448,16 @@ def cut_edits(ptab, sectors, table, keeps=False):
     return checked
 
 
+def cut_sets(ptab, sectors, tables, *options):
+    """The same."""
+    with room() as folder:
+        for name, image, text, counts, switch in tables():
+            with open(f"{folder}/table", "w", encoding="utf-8") as it:
+                it.write(text)
+            cut(ptab, folder, f"set: {name}", image, [*options, f"{folder}/table"], counts, switch, sectors, "set")
+    return checked
+
+
 def cut_kept_repairs(ptab):
     with room() as folder:
         for name, image, counts in kept_repairs():
@@ -395,6 +476,8 @@ def main():
         tables = [(SMALL, table) for table in (on_gpt, on_slices_of_gpt, on_mbr, on_chains)] + [(LARGE, on_large_sectors)]
         done = [pool.submit(counted, cut_edits, ptab, sectors, table) for sectors, table in tables]
         done += [pool.submit(counted, cut_edits, ptab, *it, True) for it in ((SMALL, kept_on_gpt), (LARGE, kept_on_large_sectors))]
+        texts = (SMALL, sets), (SMALL, sets_of_slices), (LARGE, sets_on_large_sectors), (SMALL, sets_by_table, "--by-table")
+        done += [pool.submit(counted, cut_sets, ptab, *it) for it in texts]
         done += [pool.submit(counted, cut_repairs, ptab, part, 8) for part in range(8)]
         done += [pool.submit(counted, cut_kept_repairs, ptab)]
         print(f"power cuts: {sum(it.result() for it in done)} passed, 0 failed")

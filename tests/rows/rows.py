@@ -21,6 +21,8 @@ import rows_place
 import rows_plan
 import rows_records
 import rows_repair
+import rows_set
+import rows_set_disks
 import rows_slices
 import rows_switches
 import rows_turns
@@ -28,7 +30,7 @@ import rows_words
 from eight import run_all
 
 PARTS = (rows_gpt, rows_copies, rows_mbr, rows_labels, rows_edit, rows_place, rows_free, rows_json, rows_plan, rows_turns,
-         rows_records, rows_slices, rows_switches, rows_words, rows_help, rows_repair, rows_kept)
+         rows_records, rows_slices, rows_switches, rows_words, rows_help, rows_repair, rows_kept, rows_set, rows_set_disks)
 
 
 def main():
