@@ -1,15 +1,23 @@
 """Where a new partition may lie: the blocks of free sectors."""
+import json
+
 from images import FREEBSD, LARGE, SMALL, chained, ebr, entry, guid, label, one_partition, record
 
 NEXT = ("--fresh", "101112131415161718191a1b1c1d1e1f")
 LAST_OF_RECORDS = 2 ** 32 - 1
 
 
+def member(first, last, *inside):
+    """A block as an object of JSON."""
+    return {**({"inside": inside[0]} if inside else {}), "size": last - first + 1, "start": first}
+
+
 def free(command, *blocks):
-    """`free` prints these blocks, or `none` with status 1 where there are none."""
+    """`free` prints these blocks, or `none` with status 1 where there are none; and as JSON all of them, also where there are none."""
+    command.gives(["free", "--json"], json.dumps({"freeblocks": [member(*it) for it in blocks]}, indent=2) + "\n")
     if not blocks:
         return command.gives(["free"], "none\n", status=1)
-    return command.gives(["free"], "".join(f"{first} {last}\n" for first, last in blocks))
+    return command.gives(["free"], "".join(" ".join(map(str, it)) + "\n" for it in blocks))
 
 
 def of_entries(command):
@@ -36,13 +44,27 @@ def of_records(command):
     free(command.on(SMALL.mbr(1, [])))
     free(command.on(SMALL.mbr(4096, [record(0x83, 2048, 100), record(0x07, 1, 1047)])), (1048, 2047), (2148, 4095))
     free(command.on(SMALL.mbr(4096, [record(0x83, 0, 10), record(0x83, 4000, 200)])), (10, 3999))
-    # the extended partition is taken as a whole, as a slice is
-    free(command.on(chained({4096: ebr(link=record(0x05, 2047, 1001)), 6143: ebr(record(0x83, 1, 1000))})), (1, 4095), (12288, 16383))
-    image = SMALL.mbr(8192, [record(0xA5, 2048, 4096)])
-    SMALL.put(image, 2049, label(4096, {0: (2064, 16, 7)}, count=4))
-    free(command.on(image), (1, 2047), (6144, 8191))
     command.on_sparse(LAST_OF_RECORDS + 3, {0: bytes(SMALL.mbr(1, [record(0x83, 1, 99)]))})
     free(command, (100, LAST_OF_RECORDS))
+
+
+def of_containers(command):
+    """Inside the extended partition and slices, each under its number; outside they are taken as a whole."""
+    free(command.on(chained({4096: ebr(link=record(0x05, 2047, 1001)), 6143: ebr(record(0x83, 1, 1000))})),
+         (1, 4095), (12288, 16383), (4097, 6142, 2), (7144, 12287, 2))
+    image = SMALL.mbr(8192, [record(0xA5, 2048, 4096)])
+    free(command.on(image), (1, 2047), (6144, 8191))
+    SMALL.put(image, 2049, label(4096, {0: (2064, 16, 7)}, count=4))
+    free(command.on(image), (1, 2047), (6144, 8191), (4128, 6143, 1))
+    # an empty label leaves the slice from its 17th sector on, a full one nothing
+    image = SMALL.mbr(8192, [bytes(16), record(0x83, 2048, 1024), record(0xA5, 4096, 1024)])
+    SMALL.put(image, 4097, label(1024, {}))
+    free(command.on(image), (1, 2047), (3072, 4095), (5120, 8191), (4112, 5119, 3))
+    SMALL.put(image, 4097, label(1024, {0: (1008, 16, 7)}))
+    free(command.on(image), (1, 2047), (3072, 4095), (5120, 8191))
+    image = SMALL.gpt(8192, {2: entry(2048, 4095, FREEBSD)})
+    SMALL.put(image, 2049, label(2048, {1: (10, 100, 7)}))
+    free(command.on(image), (34, 2047), (4096, 8158), (2064, 2147, 2), (2158, 4095, 2))
 
 
 def is_taken_then(command):
@@ -63,4 +85,4 @@ def of_nothing(command):
     command.on(two).gives(["free"], "", "no table: two extended\n", 4)
 
 
-ROWS = (of_entries, of_records, is_taken_then, of_nothing)
+ROWS = (of_entries, of_records, of_containers, is_taken_then, of_nothing)

@@ -153,8 +153,8 @@ RunsJob g remaining opening (job.Repair image primary locked_by) old new answer 
 RunsJob g remaining opening (job.Adopt image other medium adoption primary locked_by) old new answer =
     RunsAdoption g (string_bytes image) opening (string_bytes other) medium adoption primary locked_by old new answer
 RunsJob g remaining opening (job.Set image table fresh adoption primary locked_by) old new answer =
-    SetsTable g remaining opening (string_bytes image) (string_bytes table) (option_map string_bytes fresh) adoption primary locked_by old new
-    answer
+    SetsTable g remaining opening (string_bytes image) (string_bytes table) (option_map string_bytes fresh) adoption primary locked_by
+    old new answer
 
 -- ## The size of a sector.
 

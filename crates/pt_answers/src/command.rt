@@ -5,7 +5,8 @@ ghost use Rattle.std.specs.Io.Buffered.{writer_buffer, writer_contents};
 ghost use Rattle.clap.specs.Walk.{texts as slice_texts};
 ghost use Rattle.pt_sector.specs.Sectors.{IsSectorSize};
 ghost use Rattle.pt_answers.specs.Images.{IsPlanAt};
-ghost use Rattle.pt_answers.specs.Runs.{FreesAs, Prints, RunsAdoption, RunsJob, RunsSet, SetsTable, RunsLine, RunsShow, RunsSized, RunsWords, ShowsAs, Sizes};
+ghost use Rattle.pt_answers.specs.Runs.{FreesAs, Prints, RunsAdoption, RunsJob, RunsSet, SetsTable};
+ghost use Rattle.pt_answers.specs.Runs.{RunsLine, RunsShow, RunsSized, RunsWords, ShowsAs, Sizes};
 ghost use Rattle.pt_answers.specs.Sets.{IsDraftAt};
 ghost use Rattle.pt_answers.specs.Runs.{image_of, other_as, size_of_device};
 

@@ -3,7 +3,8 @@
 ghost use Rattle.std.specs.Prelude.{◌≡◌, ◌++◌, codes, IfSome, OnOk, Some};
 ghost use Rattle.std.specs.Io.KnownBytes.{Appends};
 ghost use Rattle.std.specs.IoError.{error_kind};
-ghost use Rattle.pt_answers.specs.Failures.{IsTold, failure_text, fault_line, fault_line_of, no_text_line, opening_text, output_failure, refusal_line};
+ghost use Rattle.pt_answers.specs.Failures.{IsTold, failure_text, fault_line, fault_line_of};
+ghost use Rattle.pt_answers.specs.Failures.{no_text_line, opening_text, output_failure, refusal_line};
 ghost use Rattle.pt_drafts.specs.Keys.{key_text};
 ghost use Rattle.pt_report.specs.Replies.{no_table_text};
 ghost use Rattle.pt_answers.specs.Statuses.{failure_status, opening_status as status_of_opening, reason_status, side_status, text_status};

@@ -1,7 +1,8 @@
 //! What the library's errors come to.
 
 ghost use Rattle.std.specs.Prelude.{◌≡◌};
-ghost use Rattle.pt_answers.specs.Failures.{as_device as device_error, commit_failure, draft_failure, like_failure, line_failure, repair_failure, set_failure};
+ghost use Rattle.pt_answers.specs.Failures.{as_device as device_error, commit_failure, draft_failure, like_failure};
+ghost use Rattle.pt_answers.specs.Failures.{line_failure, repair_failure, set_failure};
 ghost use Rattle.pt_answers.specs.Failures.{unchecked_failure, unread_failure};
 ghost use Rattle.pt_answers.specs.declared.failure.Failure.TheVariants as failure;
 

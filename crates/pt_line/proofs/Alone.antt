@@ -13,7 +13,8 @@ use Rattle.pt_line.specs.inner.CommandLine.{alone, name_of}
 use Rattle.pt_line.specs.CommandLine.{ptab}
 use Rattle.pt_line.specs.inner.Lines.{Begins, IsCommand, ReadsAs}
 use Rattle.pt_line.specs.declared.pages.Subcommand.{Subcommand}
-use Rattle.pt_line.specs.declared.pages.Subcommand.TheVariants.{Show, Verify, Locate, Free, Types, Edit, Plan, Check, Apply, Repair, Adopt, Set}
+use Rattle.pt_line.specs.declared.pages.Subcommand.TheVariants.{Show, Verify, Locate, Free, Types, Edit}
+use Rattle.pt_line.specs.declared.pages.Subcommand.TheVariants.{Plan, Check, Apply, Repair, Adopt, Set}
 
 -- a walk that stopped at this name, with the words that it passed since
 abbrev stopped_at : Text → List Text → Walk

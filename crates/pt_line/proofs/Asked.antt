@@ -23,7 +23,8 @@ use Rattle.pt_line.specs.declared.line.LineError.TheVariants.{NotText, Usage, In
 use Rattle.pt_line.proofs.ByCommand.{adopt_job, apply_job, check_job, edit_job, free_job, locate_job, plan_job, repair_job, show_job, sized}
 use Rattle.pt_line.proofs.ByCommand.{set_job, types_job, verify_job}
 use Rattle.pt_line.proofs.Rows.{Each}
-use Rattle.pt_line.proofs.Sound.{MayBe, free_sound, image_sound, mend_writing_sound, other_writing_sound, place_sound, plan_sound, plan_writing_sound}
+use Rattle.pt_line.proofs.Sound.{MayBe, free_sound, image_sound, mend_writing_sound}
+use Rattle.pt_line.proofs.Sound.{other_writing_sound, place_sound, plan_sound, plan_writing_sound}
 use Rattle.pt_line.proofs.Sound.{show_sound, table_writing_sound, types_sound, word_sound, word_writing_sound}
 use Rattle.pt_line.proofs.Taken.{HasEntered, IsFair, IsKnown, taken}
 

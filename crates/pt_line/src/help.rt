@@ -149,8 +149,8 @@ Of a device, status 5 and 2:
     };
 }
 
-/// A page's texts: its first line, what both `-h` and `--help` say (or `-h` alone, or what `--help` says more there), the exit statuses, and
-/// what `--help` alone says.
+/// A page's texts: its first line, what both `-h` and `--help` say (or `-h` alone, or what `--help` says more there), the exit
+/// statuses, and what `--help` alone says.
 macro_rules! page {
     ($about:literal, $words:literal, $status:literal, $($more:tt)*) => {
         Texts {

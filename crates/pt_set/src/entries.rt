@@ -3,7 +3,8 @@
 ghost use Rattle.std.specs.Prelude.{◌≡◌, ◌<◌, ◌≤◌, ◌^◌, ◌+◌, IfSome, IsTrue, None, length, slice_index_or};
 ghost use Rattle.std.specs.Option.{option_map};
 ghost use Rattle.pt_set.specs.Entries.{entry_at as entry_at_spec, entry_of as entry_spec, foreign_key as foreign_spec, gives as gives_spec};
-ghost use Rattle.pt_set.specs.Entries.{is_number as is_number_spec, is_open as is_open_spec, is_unused as is_unused_spec, kind_for as kind_spec};
+ghost use Rattle.pt_set.specs.Entries.{is_number as is_number_spec, is_open as is_open_spec};
+ghost use Rattle.pt_set.specs.Entries.{is_unused as is_unused_spec, kind_for as kind_spec};
 ghost use Rattle.pt_set.specs.Entries.{label_by as label_by_spec, label_for as label_spec, lowest as lowest_spec};
 ghost use Rattle.pt_set.specs.Entries.{no_foreign as no_foreign_spec, no_slice_has as no_slice_spec, number_for as number_spec};
 ghost use Rattle.pt_set.specs.Entries.{old_entry as old_entry_spec, run_length as length_spec, unique_for as unique_spec};

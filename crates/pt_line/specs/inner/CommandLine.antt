@@ -3,7 +3,8 @@ use Rattle.std.specs.Prelude.{List, [], ◌∷◌, false, codes}
 use Rattle.std.specs.Borrow.{Bor}
 use Rattle.clap.specs.Words.{App, Rule, Text}
 use Rattle.pt_line.specs.declared.pages.Subcommand.{Subcommand}
-use Rattle.pt_line.specs.declared.pages.Subcommand.TheVariants.{Show, Verify, Locate, Free, Types, Edit, Plan, Check, Apply, Repair, Adopt, Set}
+use Rattle.pt_line.specs.declared.pages.Subcommand.TheVariants.{Show, Verify, Locate, Free, Types, Edit}
+use Rattle.pt_line.specs.declared.pages.Subcommand.TheVariants.{Plan, Check, Apply, Repair, Adopt, Set}
 use Rattle.pt_line.specs.CommandLine.{image_rules, free_rules, show_rules, place_rules, word_rules, plan_rules, mend_rules, other_rules}
 use Rattle.pt_line.specs.CommandLine.{table_rules, writing, subcommand, top}
 
