@@ -22,17 +22,20 @@ OTHER_REFUSED = ("", "other: memory\n", 6)
 
 
 def commands(it, sectors, words):
-    """The lines of all commands on the image in place; PLANFILE is the plan of the words, and the other image what they make of it."""
+    """The lines of all commands on the image in place; PLANFILE is the plan of the words, the other image what they make of it,
+    and TABLE that image's table as text."""
     size = ("--sector-size", str(sectors.size))
     text, errors, status = it.run(("plan", *size, it.path, *words))
     if status != 0:
         fail(f"plan {words}", (errors, status), ("", 0))
     it.write_plan(text)
     it.write_other(("edit", *size), words)
+    it.write_table(size)
     for name, rest in (("show", ()), ("show", ("--after", it.plan)), ("show", ("--copy", "backup")), ("show", ("--json",)),
-                       ("show", ("--json", "--after", it.plan)), ("verify", ()), ("locate", ("1", "0")), ("free", ()),
+                       ("show", ("--json", "--after", it.plan)), ("verify", ()), ("locate", ("1", "0")), ("free", ()), ("free", ("--json",)),
                        ("plan", words), ("check", (it.plan,)), ("apply", (it.plan,)),
-                       ("edit", words), ("repair", ()), ("adopt", (it.other,)), ("adopt", (it.other, "--plan"))):
+                       ("edit", words), ("repair", ()), ("adopt", (it.other,)), ("adopt", (it.other, "--plan")),
+                       ("set", (it.table,)), ("set", (it.table, "--plan"))):
         yield (name, *size, it.path, *rest)
     yield ("types",)
 

@@ -28,6 +28,7 @@ class Failing:
         self.path = f"{folder}/image"
         self.plan = f"{folder}/plan"
         self.other = f"{folder}/other"
+        self.table = f"{folder}/table"
         self.held = None
         self.env = {"LD_PRELOAD": loaded, "FAULTS": f"{folder}/faults"}
         self.streams = [os.open(f"{folder}/{name}", os.O_RDWR | os.O_CREAT | os.O_TRUNC, 0o600) for name in ("out", "err")]
@@ -66,6 +67,14 @@ class Failing:
         found = self.run((*line, self.other, *words))
         if found != ("done\n", "", 0):
             fail(f"{line} {words}", found, "done")
+
+    def write_table(self, size):
+        """The text of the other image's table."""
+        text, errors, status = self.run(("show", "--json", *size, self.other))
+        if status != 0:
+            fail("show --json", (errors, status), ("", 0))
+        with open(self.table, "w", encoding="utf-8") as it:
+            it.write(text)
 
     def run(self, words, numbers=None, env=None):
         """(output, errors, status) of the words; with numbers, the library is loaded and has them. A signal's status is negative."""
