@@ -1,6 +1,6 @@
 #!/usr/bin/env python3
-"""Has each call of the built command on an image fail in turn, and each on a plan's file or on the other image of `adopt`. The answer is
-always `device`, of the latter `other: device`, status 5, and no call follows but the closing. After a call that only reads no byte has
+"""Has each call of the built command on an image fail in turn, and each on a plan's file, on the other image of `adopt` or on a table's
+text. The answer is always `device`, of these two `other: device` and `table: device`, status 5, and no call follows but the closing. After a call that only reads no byte has
 changed; after a write, or a sync between them, the image has the plan's writes up to there and no other, and shows the old layout or the
 new one, as the phase says; a repair, or the same edit again, then ends in a healthy image. Calls that a signal interrupts and reads and
 writes of one byte change nothing. An output that takes nothing gives `device`, status 5, one that nobody reads status 5 in silence, an
@@ -25,9 +25,9 @@ from plans import phases_of
 ALL = 2 ** 32 - 1
 FAILS, DONE_AND_FAILS, ONE_BYTE, NOTHING = range(4)
 DEVICE = ("", "device\n", 5)
-OTHER_DEVICE = ("", "other: device\n", 5)
+OTHER_DEVICE, TABLE_DEVICE = ("", "other: device\n", 5), ("", "table: device\n", 5)
 # what follows the image of a command: the file of the words' plan, or the image that the words make
-PLAN, OTHER, AFTER, COPY = ("plan",), ("other",), ("after",), ("--copy", "backup")
+PLAN, OTHER, TABLE, AFTER, COPY = ("plan",), ("other",), ("table",), ("after",), ("--copy", "backup")
 JSON, JSON_AFTER = ("--json",), ("json", "after")
 # of the words whose plan an adoption writes
 KEEP = "--keep-primary"
@@ -124,7 +124,7 @@ def one_fault(run, on, log, first, last, how, error):
     letter, earlier = log[first - 1], log[:first - 1]
     told = f"{run.told}: call {first} of {len(log)} on {os.path.basename(on)} ({letter}), way {how}, errno {error}, last {last}"
     found, calls, left = run.failing(on, first, last, how, error)
-    wanted = OTHER_DEVICE if on == run.it.other else DEVICE
+    wanted = {run.it.other: OTHER_DEVICE, run.it.table: TABLE_DEVICE}.get(on, DEVICE)
     if found != wanted or calls[:first] != log[:first] or calls[first:].strip("c"):
         fail(told, (found, calls[first - 1:]), (wanted, f"{letter}, and closing"))
     written = earlier.count("w") + (letter == "w" and how == DONE_AND_FAILS)
@@ -152,14 +152,14 @@ def ways_of(letter, is_image, whole):
 def fail_each(run, on, step, whole):
     """(the calls on that file, how many runs were compared): each call fails, in each way."""
     found, log, left = run.failing(on, 0, 0, 0, 0)
-    counts, is_writing = (log.count("w"), log.count("f"), log.count("l")), run.line[0] in ("edit", "apply", "repair", "adopt")
+    counts, is_writing = (log.count("w"), log.count("f"), log.count("l")), run.line[0] in ("edit", "apply", "repair", "adopt", "set")
     wanted = (len(run.writes), len(run.phases) + 1, 1) if is_writing else (0, 0, 0)
     if found != run.wanted or left != run.after or not log or on == run.it.path and counts != wanted:
         fail(f"{run.told} with the library: writes, syncs and locks", (found, counts), (run.wanted, wanted))
     runs = 0
     for first in sorted({*range(1, len(log) + 1, step), *(k for k, letter in enumerate(log, 1) if letter in "solfc")}):
         letter, more = log[first - 1], whole or first % 6 == 0 or first == len(log)
-        for later, how, error in ways_of(letter, on != run.it.plan, more):
+        for later, how, error in ways_of(letter, on not in (run.it.plan, run.it.table), more):
             one_fault(run, on, log, first, ALL if later else first, how, error)
             runs += 1
         for how, error in HARMLESS[letter] if more else ():
@@ -182,6 +182,8 @@ def full_streams(ptab, disk):
         it.write_other(("edit",), words)
         for command, (rest, writing) in lines(words).items():
             command = command.split()[0]
+            if rest == TABLE and not has_table(it, ()):
+                continue
             line = (command, it.path, *files(it).get(rest, rest))
             it.put(image)
             if it.run(line)[2] == 4 and rest == COPY:
@@ -217,13 +219,21 @@ def types(ptab):
 def lines(words):
     """Of each command what follows the image, and the words whose plan it writes."""
     return {"edit": (words, words), "apply": (PLAN, words), "repair": ((), ("a:1",)), "adopt": (OTHER, (KEEP, *words)),
+            "set": (TABLE, (KEEP, *words)), "free json": (JSON, ()),
             "plan": (words, ()), "check": (PLAN, ()), "verify": ((), ()), "show": ((), ()), "show after": (AFTER, ()),
             "show copy": (COPY, ()), "show json": (JSON, ()), "show json after": (JSON_AFTER, ()),
             "locate": (("1", "0"), ()), "free": ((), ())}
 
 
 def files(it):
-    return {PLAN: (it.plan,), OTHER: (it.other,), AFTER: ("--after", it.plan), JSON_AFTER: ("--json", "--after", it.plan)}
+    return {PLAN: (it.plan,), OTHER: (it.other,), TABLE: (it.table,), AFTER: ("--after", it.plan), JSON_AFTER: ("--json", "--after", it.plan)}
+
+
+def has_table(it, size):
+    """Whether the other image's table is a GPT, which a text may say; then the text is there."""
+    it.write_table(size)
+    with open(it.table, encoding="utf-8") as text:
+        return '"label": "gpt"' in text.read()
 
 
 def on_disk(ptab, loaded, disk, command, step, whole):
@@ -236,8 +246,10 @@ def on_disk(ptab, loaded, disk, command, step, whole):
         it.put(image)
         if rest in (PLAN, AFTER, JSON_AFTER):
             it.write_plan(it.run(("plan", *size, it.path, *words))[0])
-        if rest == OTHER:
+        if rest in (OTHER, TABLE):
             it.write_other(("edit", *size), words)
+        if rest == TABLE and not has_table(it, size):
+            return []
         if command == "repair" and it.run(("show", *size, it.path))[2] != 0:
             writing = ()
         run = Run(it, name, sectors, image, (command.split()[0], *size, it.path, *files(it).get(rest, rest)), writing)
