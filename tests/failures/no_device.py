@@ -1,10 +1,10 @@
 #!/usr/bin/env python3
 """Has each call of the built command on an image fail in turn, and each on a plan's file, on the other image of `adopt` or on a table's
-text. The answer is always `device`, of these two `other: device` and `table: device`, status 5, and no call follows but the closing. After a call that only reads no byte has
-changed; after a write, or a sync between them, the image has the plan's writes up to there and no other, and shows the old layout or the
-new one, as the phase says; a repair, or the same edit again, then ends in a healthy image. Calls that a signal interrupts and reads and
-writes of one byte change nothing. An output that takes nothing gives `device`, status 5, one that nobody reads status 5 in silence, an
-error stream that takes nothing status 5; what was done stands.
+text. The answer is always `device`, of these two `other: device` and `table: device`, status 5, and no call follows but the closing. After
+a call that only reads no byte has changed; after a write, or a sync between them, the image has the plan's writes up to there and no
+other, and shows the old layout or the new one, as the phase says; a repair, or the same edit again, then ends in a healthy image. Calls
+that a signal interrupts and reads and writes of one byte change nothing. An output that takes nothing gives `device`, status 5, one that
+nobody reads status 5 in silence, an error stream that takes nothing status 5; what was done stands.
 
 usage: tests/failures/no_device.py PTAB [all]
 Without `all` every so many calls fail on damaged disks and those of other kinds, and the rarer ways of failing come at fewer calls.
