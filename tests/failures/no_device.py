@@ -226,7 +226,8 @@ def lines(words):
 
 
 def files(it):
-    return {PLAN: (it.plan,), OTHER: (it.other,), TABLE: (it.table,), AFTER: ("--after", it.plan), JSON_AFTER: ("--json", "--after", it.plan)}
+    return {PLAN: (it.plan,), OTHER: (it.other,), TABLE: (it.table,), AFTER: ("--after", it.plan),
+            JSON_AFTER: ("--json", "--after", it.plan)}
 
 
 def has_table(it, size):

@@ -32,8 +32,8 @@ def commands(it, sectors, words):
     it.write_other(("edit", *size), words)
     it.write_table(size)
     for name, rest in (("show", ()), ("show", ("--after", it.plan)), ("show", ("--copy", "backup")), ("show", ("--json",)),
-                       ("show", ("--json", "--after", it.plan)), ("verify", ()), ("locate", ("1", "0")), ("free", ()), ("free", ("--json",)),
-                       ("plan", words), ("check", (it.plan,)), ("apply", (it.plan,)),
+                       ("show", ("--json", "--after", it.plan)), ("verify", ()), ("locate", ("1", "0")), ("free", ()),
+                       ("free", ("--json",)), ("plan", words), ("check", (it.plan,)), ("apply", (it.plan,)),
                        ("edit", words), ("repair", ()), ("adopt", (it.other,)), ("adopt", (it.other, "--plan")),
                        ("set", (it.table,)), ("set", (it.table, "--plan"))):
         yield (name, *size, it.path, *rest)
