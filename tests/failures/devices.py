@@ -38,6 +38,8 @@ from writes import SYNCS, choices, traced, written
 
 CALLS = ("openat", "write", "pwrite64", "ftruncate", *SYNCS)
 DRAWN = os.urandom(128).hex()
+# a GPT for `set`
+TEXT = b"""{"partitiontable": {"label": "gpt", "partitions": [{"number": 3, "size": "64KiB", "type": "swap"}]}}"""
 NOT_BLOCK = ("", "device: not a block device\n", 5)
 
 
@@ -82,6 +84,10 @@ def commands(it, sectors, what, image):
             both(it, what, loop, image, *words)
         both(it, what, loop, image, "adopt", put(it.at("other"), sectors.gpt(sectors.count(image), {})))
         both(it, what, loop, image, "adopt", "--plan", put(it.at("other"), image))
+        both(it, what, loop, image, "free", "--json")
+        text = put(it.at("table"), TEXT)
+        for words in (["set"], ["set", "--plan"], ["set", "--by-table"]):
+            both(it, what, loop, image, *words, "--fresh", FRESH, text)
         for edits in EDITS:
             words = ["--fresh", FRESH, *edits.split()]
             plan, _, status = both(it, what, loop, image, "plan", *words)
@@ -242,7 +248,7 @@ def no_devices(it):
     path = put(it.at("plain"), SMALL.gpt(2048, {1: entry(100, 200)}))
     plan = put(it.at("plan"), b"")
     for command, *words in (["show"], ["show", "--json"], ["verify"], ["locate", "1", "0"], ["free"], ["plan", "d:1"], ["edit", "d:1"],
-                            ["check", plan], ["apply", plan], ["repair"], ["adopt", path]):
+                            ["check", plan], ["apply", plan], ["repair"], ["adopt", path], ["set", put(it.at("table"), TEXT)]):
         for place in (path, "/dev/null", it.folder):
             it.same(f"{command} of {place}", it.run(command, "--device", place, *words), NOT_BLOCK)
         it.same(f"{command} of nothing", it.run(command, "--device", it.at("nothing"), *words), ("", "device\n", 5))
