@@ -39,7 +39,7 @@ abbrev pub IsGptOver : ℕ → ℕ → Option Layout → List Guid → Draft →
 IsGptOver b n None fresh d r = IsGptOf b n None [] fresh d r
 IsGptOver b n (Some o) fresh d r = IsGptAfter b n o.body o.labels fresh d r
 
--- a table of that kind; of an MBR none is made yet
+-- a table of that kind: only GPTs are made
 abbrev pub IsOfKind : ℕ → ℕ → Option Layout → List Guid → Draft → TableKind → Result Layout TextFault → Type 0
 IsOfKind b n old fresh d Gpt r = IsGptOver b n old fresh d r
 IsOfKind b n old fresh d Mbr r = r ≡ Err (of key.Label)

@@ -68,7 +68,7 @@ fn gpt_over<const B: usize>(
 /// The layout that a draft makes of a disk with this number of sectors, on which `old` is, if anything.
 ///
 /// docs/table.md has what is taken for each name that the text leaves out. New GUIDs are the next of `fresh`. The error is the first fault
-/// of the draft, or lack of memory. A layout of an MBR isn't made yet: that is a fault at `label`.
+/// of the draft, or lack of memory. Only GPTs are made: of an MBR the fault is at `label`.
 pub fn table_for<const B: usize>(
     alloc: Global,
     draft: &Draft,
