@@ -5,6 +5,7 @@
 //! in a text. The empty text is that of the empty plan.
 #![tactic(auto)]
 
+mod digits;
 mod error;
 pub mod laws;
 mod plan;

@@ -7,6 +7,7 @@ ghost use Rattle.pt_apply.specs.Plans.{phases_of};
 ghost use Rattle.pt_apply.specs.PlanTexts.{LineItem, IsLine, IsWriteLine, PlanText, TextRefused};
 ghost use Rattle.pt_apply.specs.inner.PlanTexts.{Lacks, step_of, TakesLine};
 
+use crate::digits::decode_digits;
 use crate::error::PlanTextError;
 use crate::plan::{Plan, Write};
 use pt_path::parse_number;
@@ -35,9 +36,10 @@ fn read_bytes<const B: usize>(digits: &str) -> Option<Sector<B>>
     ensures none { IfNone result ((bytes : List ℕ) → decode_sized digits.now B ≢ Ok bytes) }
 {
     let mut bytes = [0; B];
-    match hex::decode_to_slice(digits, &mut bytes) {
-        Ok(()) => Some(bytes),
-        Err(_) => None,
+    if decode_digits(digits.as_bytes(), &mut bytes) {
+        Some(bytes)
+    } else {
+        None
     }
 }
 

@@ -22,6 +22,7 @@ pub mod Lifts
 pub mod Links
 pub mod Mended
 pub mod MetLemmas
+pub mod NewMbr
 pub mod OneLabel
 pub mod Order
 pub mod Own

@@ -8,6 +8,7 @@ use Rattle.pt_gpt.specs.declared.table.Table.{Table}
 use Rattle.pt_members.specs.declared.layout.Layout.{Layout}
 use Rattle.pt_cases.specs.Cases.{IsPlan, IsBackupFirst, IsPrimaryFirst, idle, backup_first, primary_first, from_mbr, one_label, within_mbr}
 use Rattle.pt_cases.specs.Cases.{labels_and_backup, primary_and_labels}
+use Rattle.pt_cases.specs.NewMbr.{IsNewMbr}
 use Rattle.pt_cases.specs.Writes.{IsWrittenHeader, array_phase, backup_phase, one_write}
 use Rattle.pt_cases.specs.declared.primary.Primary.{Primary as Choice}
 use Rattle.pt_cases.specs.declared.primary.Primary.TheVariants as choice
@@ -86,7 +87,8 @@ pub record IsKept (b : ℕ) (d : Sectors) (p : Layout) (phases : List Writes) : 
   pub plan : IsPlan b d p full
   pub kept : KeptOf plan phases
 
--- a plan by what becomes of the primary header
+-- a plan by what becomes of the primary header. Where it is kept, an MBR has a plan also where d denotes none: no plan of the other
+-- kind is for one
 abbrev pub IsPlanBy : Choice → ℕ → Sectors → Layout → List Writes → Type 0
 IsPlanBy choice.Zeroed b d p phases = IsPlan b d p phases
-IsPlanBy choice.Kept b d p phases = IsKept b d p phases
+IsPlanBy choice.Kept b d p phases = IsKept b d p phases ⊎ IsNewMbr b d p phases

@@ -1,18 +1,21 @@
 -- A phase that writes nothing that is read, and the last phase.
-use Rattle.std.proofs.Common.{◌≡◌, ◌∙◌, inl, inr, ⊎_elim, ℕ, zero, suc, ◌+◌, ◌<◌, ◌≤◌, List, [], ◌∷◌, length, refl, sym, ap, subst, arith}
+use Rattle.std.proofs.Common.{◌≡◌, inl, inr, ⊎_elim, ℕ, zero, suc, ◌+◌, ◌<◌, ◌≤◌, List, [], ◌∷◌, length, refl, sym, subst, arith}
 use Rattle.std.proofs.Common.{Option, Some, None}
 use Rattle.std.specs.Prelude.{slice_get}
 use Rattle.std.proofs.lemmas.Bool.{cases_lt}
-use Rattle.pt_sector.specs.Sectors.{Sectors, sector, Agrees, Writes, Stopped, written}
+use Rattle.pt_sector.specs.Sectors.{Sectors, sector, Writes, Stopped, written}
 use Rattle.pt_sector.proofs.Written.{stopped_written}
 use Rattle.pt_sector.specs.inner.ForFields.{length-written}
 use Rattle.pt_apply.specs.Plans.{NoneIs}
 use Rattle.pt_recover.specs.Denotes.{Denotes, Reads, SameMeaning, LeavesReads}
-use Rattle.pt_recover.proofs.Terms.{reads_decide_lem, stop_keeps_lem}
+use Rattle.pt_recover.proofs.Terms.{stop_keeps_lem}
+use Rattle.pt_recover.proofs.SameReads.{alike_meaning}
+use Rattle.pt_recover.proofs.Roles.{alike_equal}
+use Rattle.pt_recover.specs.Alike.{IsAlike, ReadsAlike}
 use Rattle.pt_recover.specs.Spans.{IsIn}
 use Rattle.pt_recover.specs.declared.trace.TracedRun.{TracedRun}
 use Rattle.pt_check.specs.Answers.{phase_at, disk_after, IsCalm, LayoutsAre, Course}
-use Rattle.pt_check.specs.inner.Answers.{TouchedIs, KeepsRead}
+use Rattle.pt_check.specs.inner.Answers.{TouchedIs, current_of, KeepsRead}
 use Rattle.pt_check.proofs.Firsts.{seen_on}
 use Rattle.pt_check.proofs.Keeping.{none_puts, on_stop}
 use Rattle.pt_check.proofs.Trying.{Reading}
@@ -65,39 +68,40 @@ module _ (b : ℕ) (phases : List Writes) (d : Sectors) (i : ℕ) (below : i < l
   passed_quiet old new switch course =
       course_quiet (Denotes b) (Reads b) phases d old new i switch course (inr leaves) (λ o is. (same_meaning.denotes o).1 is)
 
--- a phase whose one write is of the bytes that stand there
-pub kept_one : (S : ℕ → Type 0) (d : Sectors) (ws : Writes) (k : ℕ) (w : ℕ × List ℕ) → length ws ≤ 1 → slice_get ws k ≡ Some w
-    → w.1 ≡ sector d w.0 → KeepsRead S d ws
-kept_one S d [] k w le at is s v puts in_s = absurd puts
-kept_one S d (x ∷ []) zero w le at is s v (inl here) in_s =
-    let same : x ≡ w = some_same x w at in
-    sym here.1 ∙ ap (λ (y : ℕ × List ℕ). y.1) same ∙ is ∙ ap (sector d) (sym (ap (λ (y : ℕ × List ℕ). y.0) same) ∙ here.0)
+-- a phase whose one write is alike to what stands there
+pub kept_one : (b : ℕ) (S : ℕ → Type 0) (d : Sectors) (ws : Writes) (k : ℕ) (w : ℕ × List ℕ) → length ws ≤ 1 → slice_get ws k ≡ Some w
+    → IsAlike b d w.0 w.1 → KeepsRead b S d ws
+kept_one b S d [] k w le at is s v puts in_s = absurd puts
+kept_one b S d (x ∷ []) zero w le at is s v (inl here) in_s =
+    let here_is : IsAlike b d x.0 x.1 = subst (λ (y : ℕ × List ℕ). IsAlike b d y.0 y.1) (sym (some_same x w at)) is in
+    subst (λ (bytes : List ℕ). IsAlike b d s bytes) here.1 (subst (λ (n : ℕ). IsAlike b d n x.1) here.0 here_is)
   where
     some_same : (y z : ℕ × List ℕ) → Some y ≡ Some z → y ≡ z
     some_same y z it = cc
-kept_one S d (x ∷ []) zero w le at is s v (inr none) in_s = absurd none
-kept_one S d (x ∷ []) (suc k) w le at is s v puts in_s = absurd cc
-kept_one S d (x ∷ y ∷ ws) k w le at is s v puts in_s = absurd (omega (arith, le))
+kept_one b S d (x ∷ []) zero w le at is s v (inr none) in_s = absurd none
+kept_one b S d (x ∷ []) (suc k) w le at is s v puts in_s = absurd cc
+kept_one b S d (x ∷ y ∷ ws) k w le at is s v puts in_s = absurd (omega (arith, le))
 
-pub kept_none : (S : ℕ → Type 0) (d : Sectors) (ws : Writes) → NoneIs (λ (w : ℕ × List ℕ). S w.0) ws → KeepsRead S d ws
-kept_none S d ws none s v puts in_s = absurd (none_puts (λ (w : ℕ × List ℕ). S w.0) ws none s v puts in_s)
+pub kept_none : (b : ℕ) (S : ℕ → Type 0) (d : Sectors) (ws : Writes) → NoneIs (λ (w : ℕ × List ℕ). S w.0) ws → KeepsRead b S d ws
+kept_none b S d ws none s v puts in_s = absurd (none_puts (λ (w : ℕ × List ℕ). S w.0) ws none s v puts in_s)
 
 module _ (b : ℕ) (phases : List Writes) (d : Sectors) (i : ℕ) (below : i < length phases) (runs : List TracedRun)
     (reading : Reading (Reads b) (disk_after phases d i) runs)
-    (keeps : KeepsRead (IsIn runs) (disk_after phases d i) (phase_at phases i)) where
-  kept_agrees : Agrees (Reads b (disk_after phases d i)) (disk_after phases d (i + 1)) (disk_after phases d i)
-  kept_agrees = subst (λ (x : Sectors). Agrees (Reads b (disk_after phases d i)) x (disk_after phases d i))
+    (keeps : KeepsRead b (IsIn runs) (disk_after phases d i) (phase_at phases i)) where
+  kept_alike : ReadsAlike b (disk_after phases d (i + 1)) (disk_after phases d i)
+  kept_alike = subst (λ (x : Sectors). ReadsAlike b x (disk_after phases d i))
       (seen_on phases d i (phase_at phases i) (disk_after phases d i) (written (phase_at phases i) (disk_after phases d i)) below refl refl
       refl)
       (record {
         count = length-written (phase_at phases i) (disk_after phases d i);
-        each = λ s read. on_stop (λ v. v ≡ sector (disk_after phases d i) s) s (disk_after phases d i) (phase_at phases i)
-            (written (phase_at phases i) (disk_after phases d i)) (stopped_written (phase_at phases i) (disk_after phases d i)) refl
+        each = λ s read. on_stop (λ v. IsAlike b (disk_after phases d i) s v) s (disk_after phases d i) (phase_at phases i)
+            (written (phase_at phases i) (disk_after phases d i)) (stopped_written (phase_at phases i) (disk_after phases d i))
+            (alike_equal b (disk_after phases d i) s (sector (disk_after phases d i) s) (sector (disk_after phases d i) s) refl refl)
             (λ v put. keeps s v put ((reading.same s).1 read));
       })
 
   kept_meaning : SameMeaning b (disk_after phases d (i + 1)) (disk_after phases d i)
-  kept_meaning = reads_decide_lem b (disk_after phases d (i + 1)) (disk_after phases d i) kept_agrees
+  kept_meaning = alike_meaning b (disk_after phases d (i + 1)) (disk_after phases d i) kept_alike
 
   kept_calm : TouchedIs (IsIn runs) (phase_at phases i) None → IsCalm (Denotes b) (Reads b) phases d i
   kept_calm touched = ⊎_elim (λ few. inl few)
@@ -113,3 +117,12 @@ module _ (b : ℕ) (phases : List Writes) (d : Sectors) (i : ℕ) (below : i < l
       → Course (Denotes b) (Reads b) phases d old new i switch → Course (Denotes b) (Reads b) phases d old new (i + 1) switch
   passed_kept touched old new switch course =
       course_quiet (Denotes b) (Reads b) phases d old new i switch course (kept_calm touched) (λ o is. (kept_meaning.denotes o).1 is)
+
+-- what the disk denotes after so many phases
+pub course_now : {L : Type 0} (denotes : Sectors → Option L → Type 0) (reads : Sectors → ℕ → Type 0) (phases : List Writes) (d : Sectors)
+    (old new : Option L) (i : ℕ) (switch : Option ℕ) → Course denotes reads phases d old new i switch
+    → denotes (disk_after phases d i) (current_of old new switch)
+course_now denotes reads phases d old new i switch course = now switch course.layouts where
+  now : (s : Option ℕ) → LayoutsAre denotes reads phases d old new i s → denotes (disk_after phases d i) (current_of old new s)
+  now None olds = olds i (omega arith)
+  now (Some s) (pos, most, differ, olds, news) = news i most (omega arith)

@@ -19,6 +19,7 @@ use crate::recovered::{Recovered, read_layout};
 use crate::trial::{Layouts, Trial, try_phases};
 use crate::writes::count_writes;
 use pt_apply::Plan;
+use pt_gpt::LastArray;
 use pt_layout::Finding;
 use pt_sector::{Disk, FailedRead, ReadCache, Room};
 use std::alloc::{AllocError, Global};
@@ -48,7 +49,8 @@ pub fn check<const B: usize, D: Disk<B>>(
 {
     let room = Room::for_cache(alloc)?;
     let mut cache = ReadCache::new(disk, room);
-    let before = read_layout(alloc, &mut cache)?;
+    let mut last = LastArray::new(alloc);
+    let before = read_layout(alloc, &mut cache, &mut last)?;
     check_known(alloc, &mut cache, plan, before)
 }
 
@@ -127,7 +129,8 @@ fn check_phases<const B: usize, D: Disk<B>>(
     ensures answers { D.tells → IfOk result (λ a. Answers B (D.told disk.old).seen (phases_of plan.now) a) }
     ensures promises { D.tells → IfOk result (λ a. Promises B (D.told disk.old).seen (phases_of plan.now) a) }
 {
-    let end = read_finished(alloc, disk, plan, count)?;
+    let mut last = LastArray::new(alloc);
+    let end = read_finished(alloc, disk, plan, count, &mut last)?;
     let (old, trace) = before.into_parts();
     let Finished {
         layout: new,
@@ -135,7 +138,7 @@ fn check_phases<const B: usize, D: Disk<B>>(
         finding,
     } = end;
     let layouts = Layouts { old, new };
-    let trial = try_phases(alloc, disk, plan, count, &layouts, trace, &end)?;
+    let trial = try_phases(alloc, disk, plan, count, &layouts, trace, &end, &mut last)?;
     let misplaced = misplaced(alloc, plan, &layouts)?;
     Ok(conclude(trial, misplaced, finding))
 }

@@ -12,7 +12,8 @@ ghost use Rattle.pt_check.specs.inner.Answers.{WrongIs};
 use crate::error::CheckError;
 use crate::trial::put_phase;
 use pt_apply::Plan;
-use pt_layout::{Finding, Layout, Survey, survey_disk};
+use pt_gpt::LastArray;
+use pt_layout::{Finding, Layout, Survey, survey_after};
 use pt_recover::Trace;
 use pt_sector::{Disk, Overlay, Room};
 use std::alloc::Global;
@@ -59,12 +60,14 @@ fn finished_of(told: Survey) -> Finished
     }
 }
 
-/// What one reading of the finished disk tells. `count` is the number of the plan's writes.
+/// What one reading of the finished disk tells. `count` is the number of the plan's writes. An array isn't summed that has the bytes of
+/// the last one.
 pub(crate) fn read_finished<const B: usize, D: Disk<B>>(
     alloc: Global,
     disk: &mut D,
     plan: &Plan<B>,
     count: usize,
+    last: &mut LastArray,
 ) -> Result<Finished, CheckError>
     requires size { IsSectorSize B }
     requires room { count ≡ length (writes_in (phases_of plan.now)) }
@@ -78,6 +81,6 @@ pub(crate) fn read_finished<const B: usize, D: Disk<B>>(
     let room = Room::new(alloc, count)?;
     let mut over = Overlay::new(disk, room);
     put_plan(&mut over, plan);
-    let told = survey_disk(alloc, &mut over)?;
+    let told = survey_after(alloc, &mut over, last)?;
     Ok(finished_of(told))
 }

@@ -102,7 +102,7 @@ fn add_places<const B: usize>(owned: &mut Trace, layout: &Layout) -> Result<(), 
     Ok(())
 }
 
-// Nothing owns none.
+// Those of no layout: none.
 fn add_owned<const B: usize>(owned: &mut Trace, layout: &Option<Layout>) -> Result<(), AllocError>
     ensures { OnOk result (Adds owned.old owned.new (OwnedOf B layout.now)) }
 {

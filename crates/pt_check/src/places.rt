@@ -12,13 +12,17 @@ use crate::objection::{Found, Objection, first_in_plan};
 use crate::owned::owned_in_either;
 use crate::tables::tables_in_either;
 use crate::trial::Layouts;
+use crate::writes::count_writes;
 use pt_apply::{Plan, Write};
 use pt_gpt::first_usable;
 use pt_layout::{Body, Layout};
-use pt_members::{Reach, reach_of};
+use pt_members::{Reach, is_owned, reach_of};
 use pt_recover::Trace;
 use pt_sector::Lba;
 use std::alloc::{AllocError, Global};
+
+/// Up to how many writes each is looked for by itself among the owned sectors.
+const FEW_WRITES: usize = 2;
 
 /// Against sectors past the disk's last.
 #[derive(Clone, Copy)]
@@ -120,6 +124,41 @@ pub(crate) fn first_stray<const B: usize>(
     Ok(first_in_plan(&Outside { sectors: &tables }, plan))
 }
 
+/// Whether a partition of a layout owns a sector. Without a layout none does.
+fn is_owned_of<const B: usize>(layout: &Option<Layout>, lba: Lba) -> bool
+    ensures { IsTrue result ↔ OwnedOf B layout.now lba.0 }
+{
+    match layout {
+        Some(layout) => is_owned::<B>(layout, lba),
+        None => false,
+    }
+}
+
+/// Against sectors that a partition of either layout owns, each looked for by itself.
+#[derive(Clone, Copy)]
+struct OwnedIn<'a> {
+    layouts: &'a Layouts,
+}
+
+impl<const B: usize> Objection<B> for OwnedIn<'_> {
+    ghost against = { λ o w. InOwned B o.layouts.now.old o.layouts.now.new w };
+
+    fn objects(&self, write: &Write<B>) -> bool {
+        if is_owned_of::<B>(&self.layouts.old, write.lba) {
+            return true;
+        }
+        is_owned_of::<B>(&self.layouts.new, write.lba)
+    }
+}
+
+/// Whether a plan has so few writes that the owned sectors aren't worth a list.
+fn has_few_writes<const B: usize>(plan: &Plan<B>) -> bool {
+    match count_writes(plan) {
+        Some(count) => count <= FEW_WRITES,
+        None => false,
+    }
+}
+
 /// The first write of a sector that is owned in either layout.
 pub(crate) fn first_owned<const B: usize>(
     alloc: Global,
@@ -130,6 +169,9 @@ pub(crate) fn first_owned<const B: usize>(
     requires few { length (writes_in (phases_of plan.now)) ≤ 4096 }
     ensures { IfOk result (FirstWriteIs (InOwned B layouts.now.old layouts.now.new) (writes_in (phases_of plan.now))) }
 {
+    if has_few_writes(plan) {
+        return Ok(first_in_plan(&OwnedIn { layouts }, plan));
+    }
     let owned = owned_in_either::<B>(alloc, layouts)?;
     Ok(first_in_plan(&Among { sectors: &owned }, plan))
 }

@@ -6,7 +6,8 @@ ghost use Rattle.pt_recover.specs.Denotes.{Reads};
 ghost use Rattle.pt_check.specs.Answers.{fault_in, FailedInCheck, IsRecoveredOf};
 
 use crate::error::CheckError;
-use pt_recover::{Layout, Trace, recover_traced};
+use pt_gpt::LastArray;
+use pt_recover::{Layout, Trace, recover_after};
 use pt_sector::Disk;
 use std::alloc::Global;
 
@@ -36,10 +37,11 @@ impl Recovered {
     }
 }
 
-/// What the disk denotes, with the sectors that decide it.
+/// What the disk denotes, with the sectors that decide it. An array isn't summed that has the bytes of the last one.
 pub(crate) fn read_layout<const B: usize, D: Disk<B>>(
     alloc: Global,
     disk: &mut D,
+    last: &mut LastArray,
 ) -> Result<Recovered, CheckError>
     requires size { IsSectorSize B }
     ensures same { OnlyReads D.Disk disk.old disk.new }
@@ -47,7 +49,7 @@ pub(crate) fn read_layout<const B: usize, D: Disk<B>>(
     ensures place { D.tells → IfErr result (FailedInCheck (Reads B (D.told disk.old).seen)) }
     ensures recovered { D.tells → IfOk result (λ r. IsRecoveredOf B (D.told disk.old).seen r) }
 {
-    let (answer, trace) = recover_traced(alloc, disk);
+    let (answer, trace) = recover_after(alloc, disk, None, last);
     let error = match answer {
         Ok(layout) => {
             return Ok(Recovered {

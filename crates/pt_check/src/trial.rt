@@ -3,21 +3,22 @@
 ghost use Rattle.std.specs.Prelude.{◌≡◌, ◌≤◌, ◌+◌, length, IfOk, IfErr, IsTrue};
 ghost use Rattle.pt_sector.specs.Device.{Blames};
 ghost use Rattle.pt_sector.specs.Overlays.{OnlyReads, read_of, room_left, shown};
-ghost use Rattle.pt_sector.specs.Sectors.{Sectors, IsSectorSize, sector, written};
+ghost use Rattle.pt_sector.specs.Sectors.{Sectors, IsSectorSize, written};
 ghost use Rattle.pt_apply.specs.Plans.{writes_of, phases_of, writes_in, finished, NoneIs};
 ghost use Rattle.pt_recover.specs.Denotes.{Denotes, Reads};
+ghost use Rattle.pt_recover.specs.Alike.{IsAlike};
 ghost use Rattle.pt_recover.specs.Spans.{IsIn};
 ghost use Rattle.pt_check.specs.Answers.{CheckReads, fault_in, FailedInCheck, IsRecoveredOf};
-ghost use Rattle.pt_check.specs.inner.Answers.{TouchedIs, KeepsRead, StepIs, LastIs, SettlesFrom, TrialIs};
+ghost use Rattle.pt_check.specs.inner.Answers.{TouchedIs, current_of, KeepsRead, StepIs, LastIs, SettlesFrom, TrialIs};
 
 use crate::answer::Why;
-use crate::boot::same_bytes;
 use crate::error::CheckError;
 use crate::objection::{Objection, first_in_phase};
 use crate::recovered::{Recovered, read_layout};
 use crate::same::same_layout;
 use pt_apply::{Plan, Write};
-use pt_recover::{Layout, Trace};
+use pt_gpt::LastArray;
+use pt_recover::{Layout, Trace, is_alike};
 use pt_sector::{Disk, FailedRead, Lba, Overlay, Room, read_sector};
 use std::alloc::Global;
 
@@ -80,35 +81,53 @@ fn is_unread<const B: usize>(phase: &[Write<B>], trace: &Trace) -> bool
     }
 }
 
-/// Whether a write is of the bytes that stand in its sector.
-fn repeats<const B: usize, D: Disk<B>>(disk: &mut D, write: &Write<B>) -> Result<bool, FailedRead>
-    requires { IsSectorSize B }
+/// What the disk denotes after phases with this switch.
+fn current<'a>(layouts: &'a Layouts, switch: Option<u64>) -> &'a Option<Layout>
+    ensures { result.now ≡ current_of layouts.now.old layouts.now.new switch }
+{
+    match switch {
+        None => &layouts.old,
+        Some(_) => &layouts.new,
+    }
+}
+
+/// Whether recovery can't tell a write from what stands in its sector, on a disk that denotes this.
+fn writes_alike<const B: usize, D: Disk<B>>(
+    disk: &mut D,
+    write: &Write<B>,
+    denoted: &Option<Layout>,
+) -> Result<bool, FailedRead>
+    requires size { IsSectorSize B }
+    requires denoted { D.tells → Denotes B (D.told disk.old).seen denoted.now }
     ensures same { OnlyReads D.Disk disk.old disk.new }
     ensures blames { Blames read_of result (D.faults disk.old) (D.faults disk.new) }
     ensures place { IfErr result (λ e. e.0 ≡ write.now.lba) }
-    ensures repeats { D.tells → IfOk result (λ yes. IsTrue yes → write.now.bytes ≡ sector (D.told disk.old).seen write.now.lba.0) }
+    ensures alike { D.tells → IfOk result (λ yes. IsTrue yes → IsAlike B (D.told disk.old).seen write.now.lba.0 write.now.bytes) }
 {
-    if write.lba.0 >= disk.sectors() {
+    let sectors = disk.sectors();
+    if write.lba.0 >= sectors {
         return Ok(false);
     }
-    let mut bytes = [0; B];
-    read_sector(disk, write.lba, &mut bytes)?;
-    Ok(same_bytes(&write.bytes[..], &bytes[..]))
+    let mut standing = [0; B];
+    read_sector(disk, write.lba, &mut standing)?;
+    Ok(is_alike(denoted, sectors, write.lba, &standing, &write.bytes))
 }
 
-/// Whether a phase leaves each sector of the trace as it is: none of its writes is of one, or its one write is of the bytes that
-/// stand there. The disk after it then denotes what it did, by the same sectors.
+/// Whether a phase leaves each sector of the trace alike: none of its writes is of one, or recovery can't tell its one write from what
+/// stands there. The disk after it then denotes what it did, by the same sectors.
 fn keeps_read<const B: usize, D: Disk<B>>(
     disk: &mut D,
     phase: &[Write<B>],
     trace: &Trace,
+    denoted: &Option<Layout>,
 ) -> Result<bool, FailedRead>
-    requires { IsSectorSize B }
+    requires size { IsSectorSize B }
+    requires denoted { D.tells → Denotes B (D.told disk.old).seen denoted.now }
     ensures same { OnlyReads D.Disk disk.old disk.new }
     ensures blames { Blames read_of result (D.faults disk.old) (D.faults disk.new) }
     ensures place { IfErr result (λ e. IsIn trace.now e.0.0) }
     ensures kept { D.tells → IfOk result
-        (λ yes. IsTrue yes → KeepsRead (IsIn trace.now) (D.told disk.old).seen (writes_of phase.now)) }
+        (λ yes. IsTrue yes → KeepsRead B (IsIn trace.now) (D.told disk.old).seen (writes_of phase.now)) }
 {
     let Some(k) = first_in_phase(&IsRead { trace }, phase) else {
         return Ok(true);
@@ -116,7 +135,7 @@ fn keeps_read<const B: usize, D: Disk<B>>(
     if phase.len() > 1 {
         return Ok(false);
     }
-    repeats(disk, &phase[k])
+    writes_alike(disk, &phase[k], denoted)
 }
 
 /// What a phase gave: the switch so far, or neither layout.
@@ -192,8 +211,9 @@ pub(crate) fn put_phase<'a, const B: usize, D: Disk<B>>(
 /// Tries the phases in an overlay: each may write what recovery reads only as its one write, and gives the old or the
 /// new layout. `end` has the sectors that recovery of the finished disk reads.
 ///
-/// The disk is recovered only after a phase that changes a sector that recovery reads: after any other it denotes what it
-/// did. Once no later phase writes a sector of `end`, it denotes what the finished disk does.
+/// The disk is recovered only after a phase that changes what recovery reads in a sector: after any other it denotes what it
+/// did. Once no later phase writes a sector of `end`, it denotes what the finished disk does. An array isn't summed that has the bytes
+/// of the last one.
 pub(crate) fn try_phases<const B: usize, D: Disk<B>>(
     alloc: Global,
     disk: &mut D,
@@ -202,6 +222,7 @@ pub(crate) fn try_phases<const B: usize, D: Disk<B>>(
     layouts: &Layouts,
     trace: Trace,
     end: &Trace,
+    last: &mut LastArray,
 ) -> Result<Trial, CheckError>
     requires size { IsSectorSize B }
     requires room { count ≡ length (writes_in (phases_of plan.now)) }
@@ -228,12 +249,12 @@ pub(crate) fn try_phases<const B: usize, D: Disk<B>>(
         if i + 1 >= settles {
             return Ok(last_step(layouts, switch, number));
         }
-        let keeps = keeps_read(&mut over, phase, &before)?;
+        let keeps = keeps_read(&mut over, phase, &before, current(layouts, switch))?;
         put_phase(&mut over, phase);
         if keeps {
             continue;
         }
-        let after = read_layout(alloc, &mut over)?;
+        let after = read_layout(alloc, &mut over, last)?;
         let (layout, trace) = after.into_parts();
         switch = match compare(&layout, layouts, switch, number) {
             Step::Goes(switch) => switch,

@@ -104,6 +104,15 @@ fn swap_claims<'a, R: Files<File = File> + AllocGlobal>(
     Ok(claims)
 }
 
+/// Whether a name ends in a digit, as that of each partition does: its disk's name, and its number. Few others in a disk's folder do, and
+/// each that is asked costs a call.
+fn is_numbered(name: &str) -> bool {
+    match name.as_bytes() {
+        [.., last] => last.is_ascii_digit(),
+        [] => false,
+    }
+}
+
 /// The device, and its partitions, or the disk that it is a partition of.
 fn related<R: Files<File = File> + AllocGlobal>(
     rt: &R,
@@ -118,7 +127,7 @@ fn related<R: Files<File = File> + AllocGlobal>(
     // The folder's own name is a link.
     let folder = format!(in rt.alloc(); "/sys/dev/block/{major}:{minor}/.")?;
     let names = names_in(rt, folder.as_str())?.ok_or(Unread::Missing)?;
-    for name in names.as_str().split('\0') {
+    for name in names.as_str().split('\0').filter(|name| is_numbered(name)) {
         let mark = format!(in rt.alloc(); "{name}/partition")?;
         if told(rt, device, mark.as_str())?.is_some() {
             let number = format!(in rt.alloc(); "{name}/dev")?;

@@ -1,14 +1,12 @@
 -- Entries that come in parts.
 use Rattle.std.proofs.Common.{◌≡◌, ℕ, ◌/◌, ◌^◌, zero-le, min, add-one, ◌∷◌, ◌+◌, ◌*◌, ◌-◌, ◌<◌, ◌≤◌, List, [], ◌++◌, length, get_or, take}
-use Rattle.std.proofs.Common.{drop, bit_xor, Option, None, refl, sym, ap, ◌∙◌, subst, arith, inl, inr, length-append, append_assoc}
+use Rattle.std.proofs.Common.{drop, Option, None, refl, sym, ap, ◌∙◌, arith, inl, inr, length-append, append_assoc}
 use Rattle.std.specs.Prelude.{slice_range}
 use Rattle.std.proofs.lemmas.Bool.{cases_lt}
 use Rattle.std.proofs.lemmas.List.{get_or_append_left, get_or-append_right, drop-append-le, take-append-le, length-drop, take_all}
 use Rattle.std.proofs.lemmas.List.{take_min, get_or_push, length_push, append-nil, length-take-le}
 use Rattle.std.proofs.Math.Seq.{drop-append-add, take-append-add}
 use Rattle.std.proofs.Math.Nat.{add-mul, one-mul}
-use Rattle.pt_sum.specs.Sums.{after_bytes, crc_of}
-use Rattle.pt_sum.proofs.Terms.{after_bytes-append}
 use Rattle.pt_gpt.specs.declared.entry.Entry.{Entry}
 use Rattle.pt_sector.specs.Sectors.{Sectors, sector, IsSectorSize}
 use Rattle.pt_gpt.specs.Copies.{AreEntries, bytes_from}
@@ -75,73 +73,38 @@ pushed_one part before now next n x so_far here push = record {
   behind = push ∙ ap (λ (t : List (Option Entry)). t ++ x ∷ []) so_far.behind ∙ append_assoc before so_far.entries (x ∷ []);
 }
 
--- what stands after some sectors
-pub record Streamed (b m at i : ℕ) (d : Sectors) (register rest : ℕ) (items : List (Option Entry)) : Type 0 where
-  pub sum : register ≡ after_bytes 0xFFFFFFFF (take m (bytes_from d at i))
-  pub entries : AreEntries items (take m (bytes_from d at i))
-  pub left : rest ≡ m - i * b
+-- the bytes that were read after some sectors
+pub record Streamed (b m at i : ℕ) (d : Sectors) (bytes : List ℕ) : Type 0 where
+  pub taken : bytes ≡ take m (bytes_from d at i)
   pub long : length (bytes_from d at i) ≡ i * b
 
-pub streamed_none : (b m at : ℕ) (d : Sectors) → Streamed b m at 0 d 0xFFFFFFFF m []
+pub streamed_none : (b m at : ℕ) (d : Sectors) → Streamed b m at 0 d []
 unfolding bytes_from
-streamed_none b m at d =
-    let none : take {A = ℕ} m [] ≡ [] = take_all m [] zero-le in
-    record {
-      sum = rw none refl;
-      entries = rw none (record { count = refl; each = λ k lt. absurd (omega arith) });
-      left = omega arith;
-      long = omega arith;
-    }
+streamed_none b m at d = record { taken = sym (take_all m [] zero-le); long = omega arith }
 
-pub streamed_more : (b m at i : ℕ) (d : Sectors) (register left : ℕ) (items es : List (Option Entry)) (s : List ℕ)
-    → Streamed b m at i d register left items → i * b ≤ m
-    → s ≡ sector d (at + i) → length s ≡ b → AreEntries es (take (min left b) s)
-    → Streamed b m at (i + 1) d (after_bytes register (take (min left b) s)) (left - min left b) (items ++ es)
+pub streamed_more : (b m at i left : ℕ) (d : Sectors) (bytes s : List ℕ) → Streamed b m at i d bytes → i * b ≤ m → left ≡ m - i * b
+    → s ≡ sector d (at + i) → length s ≡ b → Streamed b m at (i + 1) d (bytes ++ take (min left b) s)
 unfolding bytes_from
-streamed_more b m at i d register left items es s before within read long part =
+streamed_more b m at i left d bytes s before within rest read long =
     let x = bytes_from d at i in
     let whole : take m x ≡ x = take_all m x (omega (arith, before.long)) in
     let cut : take (min left b) s ≡ take (m - i * b) s =
-    ap (λ (n : ℕ). take (min left n) s) (sym long) ∙ take_min left s ∙ ap (λ (n : ℕ). take n s) before.left in
+    ap (λ (n : ℕ). take (min left n) s) (sym long) ∙ take_min left s ∙ ap (λ (n : ℕ). take n s) rest in
     let next : take m (bytes_from d at (i + 1)) ≡ x ++ take (min left b) s =
     rw (add-one, ← read) (take_sector m i b x s before.long within ∙ ap (λ (t : List ℕ). x ++ t) (sym cut)) in
     let product : (i + 1) * b ≡ i * b + b = add-mul i 1 b ∙ ap (λ (n : ℕ). i * b + n) (one-mul b) in
     record {
-      sum = rw (next, after_bytes-append 0xFFFFFFFF x (take (min left b) s))
-          (ap (λ (r : ℕ). after_bytes r (take (min left b) s)) (before.sum ∙ ap (after_bytes 0xFFFFFFFF) whole));
-      entries =
-          rw next (are_append items es x (take (min left b) s) (subst (λ (t : List ℕ). AreEntries items t) whole before.entries) part);
-      left = omega (arith, product, before.left);
+      taken = ap (λ (t : List ℕ). t ++ take (min left b) s) (before.taken ∙ whole) ∙ sym next;
       long = rw add-one (omega (arith, length-append x (sector d (at + i)), ap length read, product, before.long));
     }
-
--- the CRC, once all sectors were taken
-pub all_summed : (b m at i n : ℕ) (d : Sectors) (register rest : ℕ) (items : List (Option Entry)) → Streamed b m at i d register rest items
-    → i ≡ n → bit_xor register 0xFFFFFFFF ≡ crc_of (take m (bytes_from d at n))
-all_summed b m at i n d register rest items so_far e = rw (so_far.sum, e) refl
 
 pub sector_within : (b m i : ℕ) → IsSectorSize b → i < (m + (b - 1)) / b → i * b ≤ m
 sector_within b m i (inl e) lt = let h = rw e at lt in rw e (omega arith)
 sector_within b m i (inr e) lt = let h = rw e at lt in rw e (omega arith)
 
--- how many entries are there, and how many bytes are left, after one sector more
-pub pushed_more : (b n m left : ℕ) → IsSectorSize b → n * 128 + left ≡ m * 128
-    → (n + min left b / 128) * 128 + (left - min left b) ≡ m * 128
-pushed_more b n m left (inl e) before = rw e (omega arith)
-pushed_more b n m left (inr e) before = rw e (omega arith)
-
--- the part of a sector that is taken is whole entries, and there is room for them
+-- the part of a sector that is taken
 pub part_len : (b left taken : ℕ) (s : List ℕ) → taken ≡ min left b → length s ≡ b → length (take taken s) ≡ min left b
 part_len b left taken s t long = rw t (length-take-le (min left b) s (omega arith))
-
-pub part_whole : (b n m left taken : ℕ) (s : List ℕ) → IsSectorSize b → n * 128 + left ≡ m * 128 → taken ≡ min left b → length s ≡ b
-    → length (take taken s) ≡ length (take taken s) / 128 * 128
-part_whole b n m left taken s (inl e) before t long = rw (part_len b left taken s t long, e) (omega arith)
-part_whole b n m left taken s (inr e) before t long = rw (part_len b left taken s t long, e) (omega arith)
-
-pub part_room : (b n m left taken : ℕ) (s : List ℕ) → n * 128 + left ≡ m * 128 → taken ≡ min left b → length s ≡ b
-    → n + length (take taken s) / 128 ≤ m
-part_room b n m left taken s before t long = rw (part_len b left taken s t long) (omega arith)
 
 pub left_less : (b m i left : ℕ) → left ≡ m - i * b → left - min left b ≡ m - (i + 1) * b
 left_less b m i left before =
@@ -161,11 +124,9 @@ sector_of at i n m lt same = (omega arith, omega (arith, lt, same))
 pub last_of : (i n : ℕ) → i ≤ n → n ≤ i → n ≡ i
 last_of i n low high = omega (arith, low, high)
 
-pub all_pushed : (b n m i left : ℕ) → left ≡ m * 128 - i * b → n * 128 + left ≡ m * 128 → m * 128 ≤ i * b → n ≡ m
-all_pushed b n m i left rest pushed enough = omega (arith, rest, pushed, enough)
-
-pub none_pushed : (n m : ℕ) → n ≡ 0 → n * 128 + m ≡ m
-none_pushed n m none = omega (arith, none)
+-- nothing is left behind the last sector
+pub all_taken : (b n m i left : ℕ) → left ≡ m - i * b → n + left ≡ m → m ≤ i * b → n ≡ m
+all_taken b n m i left rest taken enough = omega (arith, rest, taken, enough)
 
 pub few_bytes : (count : ℕ) → count ≤ 128 → count * 128 < 2 ^ 64
 few_bytes count most = omega (arith, most)

@@ -11,7 +11,7 @@ use Rattle.pt_sector.specs.Sectors.{Sectors, sector, IsSectorSize}
 use Rattle.pt_sum.specs.Sums.{crc_of}
 use Rattle.pt_gpt.specs.Entries.{EntryFields, EntryBytes, EntryIs, EntryFits, IsTyped, UnitsAt, used_bytes, entry_bytes}
 use Rattle.pt_gpt.specs.Copies.{counted, AreEntries, entries_bytes, array_bytes, AllFit, AllTyped, bytes_from, array_of, CopyWith}
-use Rattle.pt_gpt.specs.Copies.{IsWrittenCopy}
+use Rattle.pt_gpt.specs.Copies.{IsWrittenCopy, array_len, array_sector}
 use Rattle.pt_gpt.specs.declared.header.Header.{Header}
 use Rattle.pt_gpt.specs.declared.entry.Entry.{Entry}
 use Rattle.pt_gpt.specs.declared.table.Side.{Side}
@@ -138,6 +138,40 @@ entries_split es i m (suc n) =
     let at : i + (m + n) ≡ i + m + n = omega arith in
     rw (e, at) (ap (λ (t : List ℕ). t ++ entry_bytes (slice_index_or es (i + m + n) None)) (entries_split es i m n)
     ∙ append_assoc (entries_bytes es i m) (entries_bytes es (i + m) n) (entry_bytes (slice_index_or es (i + m + n) None)))
+
+-- entries in the midst of a whole array
+midst : (es : List (Option Entry)) (i q rest : ℕ) → ((j : ℕ) → IfSome (slice_index_or es j None) EntryFits)
+    → take (q * 128) (drop (i * 128) (entries_bytes es 0 (i + (q + rest)))) ≡ entries_bytes es i q
+midst es i q rest fits =
+    let front = entries_bytes es 0 i in
+    let part = entries_bytes es i q in
+    let back = entries_bytes es (i + q) rest in
+    let split : entries_bytes es 0 (i + (q + rest)) ≡ front ++ (part ++ back) =
+    entries_split es 0 i (q + rest)
+    ∙ ap (λ (t : List ℕ). front ++ t) (ap (λ (j : ℕ). entries_bytes es j (q + rest)) (zero-add i) ∙ entries_split es i q rest) in
+    ap (λ (t : List ℕ). take (q * 128) (drop (i * 128) t)) split
+    ∙ ap (λ (t : List ℕ). take (q * 128) t) (drop_at front (part ++ back) (i * 128) (length_entries es 0 i fits))
+    ∙ take_at part back (q * 128) (length_entries es i q fits)
+
+part_at : (es : List (Option Entry)) (n b i q : ℕ) → ((j : ℕ) → IfSome (slice_index_or es j None) EntryFits) → q * 128 ≡ b
+    → i + q ≤ 128 → n ≡ i * 128 → take b (drop n (entries_bytes es 0 128)) ≡ entries_bytes es i q
+part_at es n b i q fits long room at =
+    let rest = 128 - (i + q) in
+    let all : i + (q + rest) ≡ 128 = omega (arith, room) in
+    ap (λ (m : ℕ). take b (drop m (entries_bytes es 0 128))) at
+    ∙ ap (λ (m : ℕ). take m (drop (i * 128) (entries_bytes es 0 128))) (sym long)
+    ∙ sym (ap (λ (m : ℕ). take (q * 128) (drop (i * 128) (entries_bytes es 0 m))) all)
+    ∙ midst es i q rest fits
+
+-- the sectors of an array that is encoded whole
+pub encoded_sector : (b : ℕ) (es : List (Option Entry)) (k : ℕ) → IsSectorSize b → AllFit es → k < array_len b
+    → take b (drop (k * b) (entries_bytes es 0 128)) ≡ array_sector b es k
+encoded_sector b es k (inl e) fits lt =
+    let few : k < 32 = rw e at lt in
+    rw e (part_at es (k * 512) 512 (k * 4) 4 (fits_past es fits) refl (omega (arith, few)) (omega arith))
+encoded_sector b es k (inr e) fits lt =
+    let few : k < 4 = rw e at lt in
+    rw e (part_at es (k * 4096) 4096 (k * 32) 32 (fits_past es fits) refl (omega (arith, few)) (omega arith))
 
 -- what entries are written as is those entries
 pub entries_back_lem : (es : List (Option Entry)) → AllFit es → AllTyped es → AreEntries es (array_bytes es)

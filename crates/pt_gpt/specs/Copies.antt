@@ -2,6 +2,7 @@
 use Rattle.std.specs.Prelude.{◌≡◌, ◌<◌, ◌≤◌, ℕ, zero, suc, ◌+◌, ◌-◌, ◌*◌, ◌/◌, List, [], ◌++◌, length, slice_range, slice_index_or}
 use Rattle.std.specs.Prelude.{Option, None, IfSome, take, codes, replicate, ◌⊎◌, ◌↔◌, Some}
 use Rattle.pt_gpt.specs.Entries.{EntryIs, EntryFits, IsTyped, entry_bytes}
+use Rattle.pt_gpt.specs.declared.array.EncodedArray.{EncodedArray}
 use Rattle.pt_gpt.specs.declared.entry.Entry.{Entry}
 use Rattle.pt_sum.specs.Sums.{crc_of}
 use Rattle.pt_gpt.specs.declared.header.Header.{Header}
@@ -60,6 +61,13 @@ AllTyped entries = (k : ℕ) → k < length entries → IfSome (slice_index_or e
 -- every used entry's numbers fit their fields
 abbrev pub AllFit : List (Option Entry) → Type 0
 AllFit entries = (k : ℕ) → k < length entries → IfSome (slice_index_or entries k None) EntryFits
+
+-- these entries, encoded as a whole array
+pub record IsEncoded (entries : List (Option Entry)) (a : EncodedArray) : Type 0 where
+  pub bytes : a.bytes.items ≡ entries_bytes entries 0 128
+  pub long : length a.bytes.items ≡ 16384
+  pub crc : a.crc ≡ crc_of (array_bytes entries)
+  pub fit : AllFit entries
 
 -- ## The header of a GUID partition table, field by field (UEFI 2.10, 5.3.2), in a sector of b bytes.
 

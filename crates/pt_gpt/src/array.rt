@@ -1,19 +1,31 @@
 //! An array of entries as its sectors.
 
-ghost use Rattle.std.specs.Prelude.{◌≡◌, ◌+◌, ◌*◌, ◌/◌, ◌<◌, ◌≤◌, IfSome, None, length, slice_index_or, ◌^◌};
+ghost use Rattle.std.specs.Prelude.{◌≡◌, ◌+◌, ◌*◌, ◌/◌, ◌<◌, ◌≤◌, IfOk, IfSome, None, length, slice_index_or, ◌^◌};
 ghost use Rattle.pt_sum.specs.Sums.{crc_of};
 ghost use Rattle.pt_sector.specs.Sectors.{IsSectorSize};
 ghost use Rattle.pt_gpt.specs.inner.Entries.{put_at};
 ghost use Rattle.pt_gpt.specs.Entries.{EntryFits, entry_bytes};
-ghost use Rattle.pt_gpt.specs.Copies.{array_len, entries_bytes, array_bytes, array_sector, AllFit};
+ghost use Rattle.pt_gpt.specs.Copies.{array_len, entries_bytes, array_bytes, array_sector, AllFit, IsEncoded};
 
 use crate::entry::{Entry, encode_entry};
+use crate::place::ARRAY_SIZE;
 use crate::view::ENTRY_SIZE;
 use pt_sector::Sector;
-use pt_sum::Crc;
+use pt_sum::{Crc, crc32};
+use std::alloc::{AllocError, Global};
+
+/// A whole array, encoded once for both copies of a table.
+#[derive(Drop)]
+pub struct EncodedArray {
+    /// The bytes of its sectors, one after another.
+    pub bytes: Vec<u8>,
+    /// What both headers have as its CRC-32.
+    pub crc: u32,
+}
 
 fn bytes_of(entry: &Option<Entry>) -> [u8; 128]
     ensures bytes { result ≡ entry_bytes entry.now }
+    ensures long { length (entry_bytes entry.now) ≡ 128 }
     ensures fits { IfSome entry.now EntryFits }
 {
     encode_entry(entry.as_ref())
@@ -70,4 +82,18 @@ pub fn encode_array_sector<const B: usize>(entries: &[Option<Entry>], k: u64) ->
     let mut bytes = [0; B];
     put_entries(&mut bytes, entries, k as usize * (B / ENTRY_SIZE));
     bytes
+}
+
+/// The array that these entries are written as, with zeros past the last one, and its CRC-32: of their number times 128 bytes.
+pub fn encode_array(alloc: Global, entries: &[Option<Entry>]) -> Result<EncodedArray, AllocError>
+    requires { length entries.now ≤ 128 }
+    ensures { IfOk result (IsEncoded entries.now) }
+{
+    let mut bytes = Vec::with_capacity(alloc, ARRAY_SIZE)?;
+    for entry in entries {
+        bytes.extend_from_slice(&bytes_of(entry))?;
+    }
+    let crc = crc32(&bytes);
+    bytes.resize(ARRAY_SIZE, 0)?;
+    Ok(EncodedArray { bytes, crc })
 }

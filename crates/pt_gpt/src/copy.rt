@@ -10,6 +10,7 @@ ghost use Rattle.pt_gpt.specs.Copies.{header_place, IsPlaced, IsHead, CopyWith, 
 use crate::entries::read_entries;
 use crate::error::CopyError;
 use crate::header::{Header, decode_header};
+use crate::last::LastArray;
 use crate::place::{check_place, header_at};
 use crate::table::{Side, Table};
 use pt_sector::{Disk, Lba, read_sector};
@@ -56,14 +57,15 @@ pub fn read_head<const B: usize, D: Disk<B>>(disk: &mut D, side: Side) -> Result
 
 /// The table of the copy whose header stands on this side.
 ///
-/// `ArrayCrc` where the array has another CRC, `Device` where a read failed. The memory for the entries is taken at
-/// once, before the first read; `Memory` where there is none. The counted sectors of the array are read in order,
-/// through one sector's buffer.
+/// `ArrayCrc` where the array has another CRC, `Device` where a read failed. The memory for the array's bytes is taken at
+/// once, before the first read, and that for the entries behind the last one; `Memory` where there is none. The counted sectors
+/// of the array are read in order, through one sector's buffer. Where they have the bytes of the last array they aren't summed again.
 pub fn read_table<const B: usize, D: Disk<B>>(
     alloc: Global,
     disk: &mut D,
     side: Side,
     header: &Header,
+    last: &mut LastArray,
 ) -> Result<Table, CopyError>
     requires size { IsSectorSize B }
     requires room { HasRoom B (D.count disk.old) }
@@ -76,7 +78,7 @@ pub fn read_table<const B: usize, D: Disk<B>>(
     ensures err { D.tells → IfErr result (λ e. TellsFault B (D.told disk.old).seen side e) }
     ensures place { D.tells → IfErr result (FailedInCopy (SideReads B (D.told disk.old).seen side)) }
 {
-    let (crc, entries) = read_entries(alloc, disk, header.array, header.count)?;
+    let (crc, entries) = read_entries(alloc, disk, header.array, header.count, last)?;
     if crc != header.array_crc {
         return Err(CopyError::ArrayCrc);
     }
@@ -106,5 +108,6 @@ pub fn read_copy<const B: usize, D: Disk<B>>(
     ensures place { D.tells → IfErr result (FailedInCopy (SideReads B (D.told disk.old).seen side)) }
 {
     let header = read_head(disk, side)?;
-    read_table(alloc, disk, side, &header)
+    let mut last = LastArray::new(alloc);
+    read_table(alloc, disk, side, &header, &mut last)
 }

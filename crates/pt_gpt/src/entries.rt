@@ -11,12 +11,12 @@ ghost use Rattle.pt_gpt.specs.declared.entry.Entry.{Entry};
 
 use crate::entry::Entry;
 use crate::error::CopyError;
+use crate::last::LastArray;
 use crate::place::counted_sectors;
 use crate::table::Entries;
 use crate::view::{ENTRY_SIZE, EntryView};
 use pt_sector::{Disk, Lba, read_sector};
-use pt_sum::Crc;
-use std::alloc::Global;
+use std::alloc::{AllocError, Global};
 
 // Adds the entries of a part of the array. There is room for them.
 fn push_entries(items: &mut Vec<Option<Entry>>, part: &[u8])
@@ -31,12 +31,54 @@ fn push_entries(items: &mut Vec<Option<Entry>>, part: &[u8])
     }
 }
 
-// The CRC and the entries of the array from sector `at` on. All memory is taken before the first read.
+// The entries that these bytes are.
+fn entries_in(alloc: Global, bytes: &[u8]) -> Result<Entries, AllocError>
+    requires { length bytes.now ≡ length bytes.now / 128 * 128 }
+    ensures { IfOk result (λ es. AreEntries es bytes.now) }
+{
+    let mut items = Vec::with_capacity(alloc, bytes.len() / ENTRY_SIZE)?;
+    push_entries(&mut items, bytes);
+    Ok(Entries::new(items))
+}
+
+// The bytes of the entries of an array, from sector `at` on. The memory for them is taken before the first read.
+fn read_bytes<const B: usize, D: Disk<B>>(
+    alloc: Global,
+    disk: &mut D,
+    at: u64,
+    count: u32,
+) -> Result<Vec<u8>, CopyError>
+    requires size { IsSectorSize B }
+    requires most { count ≤ 128 }
+    requires fits { at + counted B count < 2 ^ 64 }
+    requires within { at + counted B count ≤ D.count disk.old }
+    ensures same { OnlyReads D.Disk disk.old disk.new }
+    ensures blames { Blames fault_in result (D.faults disk.old) (D.faults disk.new) }
+    ensures outside { IfErr result IsOutsideCopy }
+    ensures place { IfErr result (FailedInCopy (λ s. (at ≤ s) × (s < at + counted B count))) }
+    ensures number { IfOk result (λ v. length v.items ≡ count * 128) }
+    ensures bytes { D.tells → IfOk result (λ v. v.items ≡ take (count * 128) (bytes_from (D.told disk.old).seen at (counted B count))) }
+{
+    let mut left = count as usize * ENTRY_SIZE;
+    let mut bytes = Vec::with_capacity(alloc, left)?;
+    let mut sector = [0; B];
+    for i in 0..counted_sectors::<B>(count) {
+        read_sector(disk, Lba(at + i), &mut sector)?;
+        let whole = &sector[..];
+        let taken = left.min(B);
+        bytes.extend_from_slice(&whole[..taken])?;
+        left -= taken;
+    }
+    Ok(bytes)
+}
+
+// The CRC and the entries of the array from sector `at` on. It isn't summed where it has the bytes of the last one.
 pub(crate) fn read_entries<const B: usize, D: Disk<B>>(
     alloc: Global,
     disk: &mut D,
     at: u64,
     count: u32,
+    last: &mut LastArray,
 ) -> Result<(u32, Entries), CopyError>
     requires size { IsSectorSize B }
     requires most { count ≤ 128 }
@@ -51,18 +93,7 @@ pub(crate) fn read_entries<const B: usize, D: Disk<B>>(
     ensures entries { D.tells → IfOk result (λ r. AreEntries r.1
         (take (count * 128) (bytes_from (D.told disk.old).seen at (counted B count)))) }
 {
-    let mut items = Vec::with_capacity(alloc, count as usize)?;
-    let mut sum = Crc::new();
-    let mut left = count as usize * ENTRY_SIZE;
-    let mut sector = [0; B];
-    for i in 0..counted_sectors::<B>(count) {
-        read_sector(disk, Lba(at + i), &mut sector)?;
-        let whole = &sector[..];
-        let taken = left.min(B);
-        let part = &whole[..taken];
-        sum.update(part);
-        push_entries(&mut items, part);
-        left -= taken;
-    }
-    Ok((sum.value(), Entries::new(items)))
+    let bytes = read_bytes(alloc, disk, at, count)?;
+    let entries = entries_in(alloc, &bytes)?;
+    Ok((last.take(bytes), entries))
 }

@@ -10,16 +10,18 @@ mod entries;
 mod entry;
 mod error;
 mod header;
+mod last;
 pub mod laws;
 mod place;
 mod table;
 mod view;
 
-pub use array::{array_crc, encode_array_sector};
+pub use array::{EncodedArray, array_crc, encode_array, encode_array_sector};
 pub use copy::{read_copy, read_head, read_table};
 pub use entry::{Entry, decode_entry, encode_entry};
 pub use error::CopyError;
 pub use header::{Header, decode_header, encode_header};
+pub use last::LastArray;
 pub use place::{
     MOST_ENTRIES, array_at, array_sectors, counted_sectors, first_usable, has_room, header_at,
 };

@@ -13,7 +13,7 @@ use crate::view::ENTRY_SIZE;
 pub const MOST_ENTRIES: usize = 128;
 
 /// How many bytes an array of that many entries takes.
-const ARRAY_SIZE: usize = MOST_ENTRIES * ENTRY_SIZE;
+pub(crate) const ARRAY_SIZE: usize = MOST_ENTRIES * ENTRY_SIZE;
 
 /// How many sectors an array of 128 entries takes: 32 of 512 bytes, or 4 of 4096.
 pub fn array_sectors<const B: usize>() -> u64

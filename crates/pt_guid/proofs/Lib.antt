@@ -1,3 +1,4 @@
+pub mod Halves
 pub mod Rows
 pub mod Table
 pub mod Terms

@@ -20,14 +20,14 @@ mixed_twice bytes len = absurd (omega arith)
 pub one_value : (text a b : List ℕ) → stored_of text ≡ Some a → stored_of text ≡ Some b → a ≡ b
 one_value text a b is_a is_b = ap (λ (o : Option (List ℕ)). unwrap_or o []) (sym is_a ∙ is_b)
 
-abbrev IsByte : ℕ → Type 0
+abbrev pub IsByte : ℕ → Type 0
 IsByte x = x < 256
 
 all_at : (bytes places : List ℕ) → ((k : ℕ) → IsByte (slice_index bytes k)) → All IsByte (map (slice_index bytes) places)
 all_at bytes [] each = All-nil IsByte
 all_at bytes (k ∷ places) each = All-cons IsByte (slice_index bytes k) (map (slice_index bytes) places) (each k) (all_at bytes places each)
 
-each_byte : (bytes : List ℕ) → All IsByte bytes → (k : ℕ) → IsByte (slice_index bytes k)
+pub each_byte : (bytes : List ℕ) → All IsByte bytes → (k : ℕ) → IsByte (slice_index bytes k)
 each_byte bytes all k =
     elim (cases_lt k (length bytes)) [
       | inl within ↦ all k 0 within

@@ -1,6 +1,11 @@
 //! GUIDs, their texts, and fresh ones.
 
-ghost use Rattle.std.specs.Prelude.{◌≡◌, ◌<◌, ◌↔◌, All, IsTrue, IfOk, IfErr, Some, None, length, replicate};
+ghost use Rattle.std.specs.Prelude.{◌≡◌, ◌<◌, ◌↔◌, All, IsTrue, IfOk, IfErr, Some, None, length, replicate, nat_eq, take, drop};
+ghost use Rattle.std.proofs.Common.{rules};
+ghost use Rattle.std.specs.Cmp.Lexicographic.{pointwise};
+ghost use Rattle.std.specs.Cmp.Rules.{comparing};
+ghost use Rattle.std.specs.Ordering.{on};
+ghost use Rattle.std.specs.Int.{w64, from_le_bytes};
 ghost use Rattle.uuid.specs.Text.{hyphenated_text, lower};
 ghost use Rattle.pt_guid.specs.Guids.{mixed, stored_of, text_of, fresh_of};
 ghost use Rattle.pt_guid.specs.Sentences.{guid_error_sentence};
@@ -12,8 +17,52 @@ use uuid::fmt::Hyphenated;
 
 /// A GUID, by its sixteen bytes as a disk stores them: those of the first three fields of its text are turned round, field by field
 /// (UEFI 2.10, Appendix A).
-#[derive(Clone, Copy, Debug, PartialEq, Eq)]
+#[derive(Clone, Copy, Debug)]
 pub struct Guid(pub [u8; 16]);
+
+// Half of the bytes as a number.
+fn half(bytes: &[u8]) -> u64
+    requires { length bytes.now ≡ 8 }
+    ensures { result ≡ from_le_bytes w64 bytes.now }
+{
+    u64::from_le_bytes([
+        bytes[0], bytes[1], bytes[2], bytes[3], bytes[4], bytes[5], bytes[6], bytes[7],
+    ])
+}
+
+// Both halves.
+fn halves(bytes: &[u8; 16]) -> (u64, u64)
+    ensures first { result.0 ≡ from_le_bytes w64 (take 8 bytes.now) }
+    ensures second { result.1 ≡ from_le_bytes w64 (drop 8 bytes.now) }
+    ensures bytes { All (λ byte. byte < 256) bytes.now }
+    ensures whole { length bytes.now ≡ 16 }
+{
+    let (first, second) = bytes.split_at(8);
+    (half(first), half(second))
+}
+
+#[tactic(auto, using(crate::proofs::Halves::same_by_halves))]
+fn have_same_bytes(a: &[u8; 16], b: &[u8; 16]) -> bool
+    ensures { IsTrue result ↔ (a.now ≡ b.now) }
+{
+    let (a, b) = (halves(a), halves(b));
+    a.0 == b.0 && a.1 == b.1
+}
+
+// By hand: two numbers are compared, and not sixteen bytes one by one.
+impl PartialEq for Guid {
+    ghost eq = { on (λ g. g.0) (pointwise nat_eq) };
+
+    ghost laws = { Prim.search (comparing, rules) };
+
+    fn eq(&self, other: &Guid) -> bool {
+        have_same_bytes(&self.0, &other.0)
+    }
+}
+
+impl Eq for Guid {
+    ghost laws = { Prim.search (comparing, rules) };
+}
 
 /// Why a text is no GUID.
 #[derive(Clone, Copy, Debug, PartialEq, Eq)]

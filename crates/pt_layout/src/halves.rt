@@ -10,7 +10,7 @@ ghost use Rattle.pt_recover.specs.Denotes.{TableReads};
 ghost use Rattle.pt_recover.specs.Spans.{Adds};
 ghost use Rattle.pt_layout.specs.inner.Surveys.{HalfIs, HalfOrFault, HalvesAre, paired_as};
 
-use pt_gpt::{CopyError, Header, Side, Table};
+use pt_gpt::{CopyError, Header, LastArray, Side, Table};
 use pt_recover::{Trace, traced_copy};
 use pt_sector::{Disk, Failure};
 use std::alloc::Global;
@@ -37,6 +37,7 @@ fn read_half<const B: usize, D: Disk<B>>(
     disk: &mut D,
     side: Side,
     trace: &mut Trace,
+    last: &mut LastArray,
 ) -> Result<Half, CopyError>
     requires size { IsSectorSize B }
     requires room { HasRoom B (D.count disk.old) }
@@ -49,7 +50,7 @@ fn read_half<const B: usize, D: Disk<B>>(
     ensures traced_err { D.tells → IfErr result (λ e. IsOutsideCopy e
         ⊎ Adds trace.old trace.new (SideReads B (D.told disk.old).seen side)) }
 {
-    let (header, table) = traced_copy(alloc, disk, side, trace)?;
+    let (header, table) = traced_copy(alloc, disk, side, trace, last)?;
     Ok(Half { header, table })
 }
 
@@ -59,6 +60,7 @@ fn half_or_fault<const B: usize, D: Disk<B>>(
     disk: &mut D,
     side: Side,
     trace: &mut Trace,
+    last: &mut LastArray,
 ) -> Result<Result<Half, CopyError>, Failure>
     requires size { IsSectorSize B }
     requires room { HasRoom B (D.count disk.old) }
@@ -68,7 +70,7 @@ fn half_or_fault<const B: usize, D: Disk<B>>(
     ensures ok { D.tells → IfOk result (λ h. HalfOrFault B (D.told disk.old).seen side h) }
     ensures traced { D.tells → OnOk result (Adds trace.old trace.new (SideReads B (D.told disk.old).seen side)) }
 {
-    let e = match read_half(alloc, disk, side, trace) {
+    let e = match read_half(alloc, disk, side, trace, last) {
         Ok(half) => return Ok(Ok(half)),
         Err(e) => e,
     };
@@ -85,6 +87,7 @@ fn read_backup<const B: usize, D: Disk<B>>(
     disk: &mut D,
     decides: bool,
     trace: &mut Trace,
+    last: &mut LastArray,
 ) -> Result<Result<Half, CopyError>, Failure>
     requires size { IsSectorSize B }
     requires room { HasRoom B (D.count disk.old) }
@@ -96,17 +99,19 @@ fn read_backup<const B: usize, D: Disk<B>>(
     ensures untraced { decides ≡ false → trace.new ≡ trace.old }
 {
     if decides {
-        return half_or_fault(alloc, disk, Side::Backup, trace);
+        return half_or_fault(alloc, disk, Side::Backup, trace, last);
     }
     let mut beside = Trace::new(alloc);
-    half_or_fault(alloc, disk, Side::Backup, &mut beside)
+    half_or_fault(alloc, disk, Side::Backup, &mut beside, last)
 }
 
-/// Both copies of a disk with room for them, with the sectors that decide its table added to the trace.
+/// Both copies of a disk with room for them, with the sectors that decide its table added to the trace. An array isn't summed that has
+/// the bytes of the last one, as that of the backup mostly has those of the primary's.
 pub(crate) fn read_halves<const B: usize, D: Disk<B>>(
     alloc: Global,
     disk: &mut D,
     trace: &mut Trace,
+    last: &mut LastArray,
 ) -> Result<Halves, Failure>
     requires size { IsSectorSize B }
     requires room { HasRoom B (D.count disk.old) }
@@ -117,8 +122,8 @@ pub(crate) fn read_halves<const B: usize, D: Disk<B>>(
     ensures ok { D.tells → IfOk result (λ h. HalvesAre B (D.told disk.old).seen h) }
     ensures traced { D.tells → OnOk result (Adds trace.old trace.new (TableReads B (D.told disk.old).seen)) }
 {
-    let primary = half_or_fault(alloc, disk, Side::Primary, trace)?;
-    let backup = read_backup(alloc, disk, primary.is_err(), trace)?;
+    let primary = half_or_fault(alloc, disk, Side::Primary, trace, last)?;
+    let backup = read_backup(alloc, disk, primary.is_err(), trace, last)?;
     Ok(paired(primary, backup))
 }
 

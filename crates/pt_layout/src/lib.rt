@@ -17,4 +17,4 @@ pub use pt_members::{
 pub use pt_path::{Path, parse_number, parse_path};
 pub use pt_recover::{NoTable, SideError, Trace, recover, recover_from, recover_traced};
 pub use pt_sector::Failure as VerifyError;
-pub use survey::{Survey, survey_disk};
+pub use survey::{Survey, survey_after, survey_disk};

@@ -19,12 +19,12 @@ use crate::foreign::first_foreign;
 use crate::halves::{Half, Halves, read_halves};
 use crate::health::{Head, read_first};
 use crate::sound::{Finding, unsound};
-use pt_gpt::{Side, Table, has_room};
+use pt_gpt::{LastArray, Side, Table, has_room};
 use pt_mbr::Mbr;
 use pt_members::{Body, Labels, Layout, Slice, label_places};
 use pt_path::Path;
 use pt_recover::{NoTable, Trace, recover_known, traced_labels};
-use pt_sector::{Disk, Failure};
+use pt_sector::{Disk, Failure, ReadCache, Room};
 use std::alloc::{AllocError, Global};
 
 /// What one reading of a disk tells.
@@ -85,7 +85,7 @@ fn judge<const B: usize, D: Disk<B>>(
     }
 }
 
-// The same, of a disk with this wrong with the copies, or nothing.
+// As `judge`, after the finding on the copies, if any.
 fn judge_after<const B: usize, D: Disk<B>>(
     alloc: Global,
     disk: &mut D,
@@ -253,9 +253,9 @@ struct Judged {
     finding: Option<Finding>,
 }
 
-// The layout of a GPT disk that denotes this table, with this wrong with the copies, or nothing: its label places are
-// added to the trace.
-fn judge_table<const B: usize, D: Disk<B>>(
+// The layout of a GPT disk that denotes this table, judged after the finding on the copies, if any. Its label places are added to the
+// trace.
+fn judge_labelled<const B: usize, D: Disk<B>>(
     alloc: Global,
     disk: &mut D,
     table: Table,
@@ -281,6 +281,31 @@ fn judge_table<const B: usize, D: Disk<B>>(
         places: placed.places,
         finding,
     })
+}
+
+// As `judge_labelled`; the disk is asked for each label place once.
+fn judge_table<const B: usize, D: Disk<B>>(
+    alloc: Global,
+    disk: &mut D,
+    table: Table,
+    broken: Option<Finding>,
+    trace: &mut Trace,
+) -> Result<Judged, Failure>
+    requires size { IsSectorSize B }
+    requires body { D.tells → BodyIs B (D.told disk.old).seen (Gpt table) }
+    requires broken { D.tells → BrokenIs B (D.told disk.old).seen (Gpt table) broken }
+    ensures same { OnlyReads D.Disk disk.old disk.new }
+    ensures blames { Blames fault_of result (D.faults disk.old) (D.faults disk.new) }
+    ensures place { D.tells → IfErr result (FailedIn (Reads B (D.told disk.old).seen)) }
+    ensures body { IfOk result (λ j. j.layout.body ≡ Gpt table) }
+    ensures places { IfOk result (λ j. ArePlaces (places_of B (D.count disk.old) (Gpt table)) j.places) }
+    ensures ok { D.tells → IfOk result (λ j. LayoutOf B (D.told disk.old).seen table j.layout) }
+    ensures finding { D.tells → IfOk result (λ j. FindingIs B (D.told disk.old).seen (Ok j.layout) j.finding) }
+    ensures traced { OnOk result (Adds trace.old trace.new (IsPlace (places_of B (D.count disk.old) (Gpt table)))) }
+{
+    let room = Room::for_cache(alloc)?;
+    let mut cache = ReadCache::new(disk, room);
+    judge_labelled(alloc, &mut cache, table, broken, trace)
 }
 
 // The survey of a GPT disk that denotes the chosen table. The trace has the sectors that decide the table.
@@ -344,6 +369,7 @@ fn survey_gpt<const B: usize, D: Disk<B>>(
     alloc: Global,
     disk: &mut D,
     head: Head,
+    last: &mut LastArray,
 ) -> Result<Survey, Failure>
     requires size { IsSectorSize B }
     requires some { 0 < D.count disk.old }
@@ -362,7 +388,7 @@ fn survey_gpt<const B: usize, D: Disk<B>>(
         let reason = NoTable::TooSmall;
         return Ok(nothing(head, reason, Trace::new(alloc), trace));
     }
-    let halves = read_halves(alloc, disk, &mut trace)?;
+    let halves = read_halves(alloc, disk, &mut trace, last)?;
     survey_halves(alloc, disk, head, halves, trace)
 }
 
@@ -409,7 +435,7 @@ fn without_layout(alloc: Global, reason: NoTable, trace: Trace) -> Result<Survey
 }
 
 // The survey of an MBR disk with these records.
-fn survey_mbr<const B: usize, D: Disk<B>>(
+fn survey_records<const B: usize, D: Disk<B>>(
     alloc: Global,
     disk: &mut D,
     mbr: Mbr,
@@ -429,13 +455,49 @@ fn survey_mbr<const B: usize, D: Disk<B>>(
     }
 }
 
+// As `survey_records`; the disk is asked for each sector once.
+fn survey_mbr<const B: usize, D: Disk<B>>(
+    alloc: Global,
+    disk: &mut D,
+    mbr: Mbr,
+) -> Result<Survey, Failure>
+    requires size { IsSectorSize B }
+    requires mbr { D.tells → IsMbr (D.told disk.old).seen mbr.records }
+    ensures same { OnlyReads D.Disk disk.old disk.new }
+    ensures blames { Blames fault_of result (D.faults disk.old) (D.faults disk.new) }
+    ensures place { D.tells → IfErr result (FailedIn (VerdictReads B (D.told disk.old).seen)) }
+    ensures numbers { IfOk result (λ x. IfOk x.found Numbers) }
+    ensures ok { D.tells → IfOk result (IsSurvey B (D.told disk.old).seen) }
+{
+    let room = Room::for_cache(alloc)?;
+    let mut cache = ReadCache::new(disk, room);
+    survey_records(alloc, &mut cache, mbr)
+}
+
 /// Reads a disk once, and tells all that it says of its layout and its health.
 ///
-/// It reads sector 0 and the two sides of a GPT, or the chain of an MBR disk, and the label places of the layout, once
-/// each; a layout with nothing else wrong has its label places read once more.
+/// It reads sector 0 and the two sides of a GPT, or the chain of an MBR disk, and the label places of the layout, once each (up to 512
+/// label places of a GPT, and as many sectors of an MBR disk).
 pub fn survey_disk<const B: usize, D: Disk<B>>(
     alloc: Global,
     disk: &mut D,
+) -> Result<Survey, Failure>
+    requires size { IsSectorSize B }
+    ensures same { OnlyReads D.Disk disk.old disk.new }
+    ensures blames { Blames fault_of result (D.faults disk.old) (D.faults disk.new) }
+    ensures place { D.tells → IfErr result (FailedIn (VerdictReads B (D.told disk.old).seen)) }
+    ensures numbers { IfOk result (λ x. IfOk x.found Numbers) }
+    ensures ok { D.tells → IfOk result (IsSurvey B (D.told disk.old).seen) }
+{
+    let mut last = LastArray::new(alloc);
+    survey_after(alloc, disk, &mut last)
+}
+
+/// The same, where an array isn't summed that has the bytes of the last one.
+pub fn survey_after<const B: usize, D: Disk<B>>(
+    alloc: Global,
+    disk: &mut D,
+    last: &mut LastArray,
 ) -> Result<Survey, Failure>
     requires size { IsSectorSize B }
     ensures same { OnlyReads D.Disk disk.old disk.new }
@@ -452,6 +514,6 @@ pub fn survey_disk<const B: usize, D: Disk<B>>(
     let first = read_first(disk)?;
     match first.records {
         Some(mbr) => survey_mbr(alloc, disk, mbr),
-        None => survey_gpt(alloc, disk, first.head),
+        None => survey_gpt(alloc, disk, first.head, last),
     }
 }

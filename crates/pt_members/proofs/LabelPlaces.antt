@@ -7,10 +7,14 @@ use Rattle.std.proofs.lemmas.List.Elements.{filter-append, filter_passes}
 use Rattle.std.proofs.lemmas.Grind.{flat_map-append}
 use Rattle.pt_members.specs.declared.layout.Slice.{Slice}
 use Rattle.pt_members.specs.declared.layout.Body.{Body}
+use Rattle.pt_members.specs.declared.layout.Body.TheVariants.{Gpt}
+use Rattle.pt_gpt.specs.declared.entry.Entry.{Entry}
+use Rattle.pt_gpt.specs.declared.table.Table.{Table}
 use Rattle.pt_members.specs.declared.member.Kind.{Kind}
 use Rattle.pt_members.specs.declared.member.Kind.TheVariants as kind
 use Rattle.pt_members.specs.declared.member.Member.{Member}
 use Rattle.pt_members.specs.Members.{slots, slice_of, slice_in, slices_of, has_place, place_of, places_of, IsPlace}
+use Rattle.pt_members.specs.Members.{entries_as, tops, logicals}
 use Rattle.pt_members.specs.inner.Members.{placed_in}
 use Rattle.pt_members.specs.Tables.{NextSectorIs, least_of}
 use Rattle.pt_members.proofs.Lowest.{next_same, next_or}
@@ -32,9 +36,21 @@ pub placed_more : (n k : ℕ) (os : List (Option Member)) (ss : List Slice) → 
     → ss ≡ placed_before n os k ++ placed_in n (get_or os k None) → ss ≡ placed_before n os (k + 1)
 placed_more n k os ss lt is = is ∙ sym (one_more n k os lt)
 
+pub all_placed : (n k : ℕ) (os : List (Option Member)) → length os ≤ k
+    → placed_before n os k ≡ filter (has_place n) (flat_map slice_in os)
+all_placed n k os past = ap (λ (l : List (Option Member)). filter (has_place n) (flat_map slice_in l)) (take_all k os past)
+
 pub placed_end : (b n k : ℕ) (y : Body) → length (slots b y) ≤ k → placed_before n (slots b y) k ≡ places_of b n y
 unfolding places_of slices_of
-placed_end b n k y past = ap (λ (l : List (Option Member)). filter (has_place n) (flat_map slice_in l)) (take_all k (slots b y) past)
+placed_end b n k y past = all_placed n k (slots b y) past
+
+-- those among the entries of a GPT
+pub gpt_places : (b n : ℕ) (y : Body) (t : Table) (es : List (Option Entry)) → y ≡ Gpt t → es ≡ t.entries
+    → filter (has_place n) (flat_map slice_in (entries_as b 1 es)) ≡ places_of b n y
+unfolding places_of slices_of tops logicals
+gpt_places b n y t es is same =
+    rw (is, same) (ap (λ (l : List (Option Member)). filter (has_place n) (flat_map slice_in l))
+    (sym (append-nil (entries_as b 1 t.entries))))
 
 place_split : (ps qs : List Slice) (s : ℕ) → IsPlace (ps ++ qs) s → IsPlace ps s ⊎ IsPlace qs s
 place_split [] qs s is = inr is

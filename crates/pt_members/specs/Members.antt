@@ -53,7 +53,7 @@ is_slice_kind kind = bytes_eq kind (mixed freebsd)
 abbrev pub entry_kind : ℕ → List ℕ → Kind
 entry_kind b guid = if nat_eq b 512 && is_slice_kind guid then kind.Slice else Leaf
 
--- of a start and a size that count from a sector
+-- a member from a start and a size relative to a sector
 abbrev pub sized_member : Path → Kind → ℕ → ℕ → Member
 sized_member path kind first size = record { path = path; kind = kind; first = first; last = first + size - 1 }
 

@@ -1,15 +1,16 @@
 //! Slices, and where their labels stand.
 
-ghost use Rattle.std.specs.Prelude.{◌≡◌, ◌<◌, ◌+◌, ◌++◌, filter, option_to_list, length, slice_index_or, None, IfOk, IfSome, IsTrue};
-ghost use Rattle.std.specs.Prelude.{OnOk};
+ghost use Rattle.std.specs.Prelude.{◌≡◌, ◌<◌, ◌+◌, ◌++◌, filter, flat_map, option_map, option_to_list, length, slice_index_or, None, IfOk};
+ghost use Rattle.std.specs.Prelude.{OnOk, IfSome};
 ghost use Rattle.pt_sector.specs.Sectors.{IsSectorSize};
-ghost use Rattle.pt_members.specs.Members.{slots, number_at, has_place, slice_of, places_of};
+ghost use Rattle.pt_members.specs.Members.{slots, number_at, has_place, slice_of, slice_in, places_of, entries_as, entry_member};
 ghost use Rattle.pt_members.specs.Tables.{HasFour};
 ghost use Rattle.pt_members.specs.inner.Members.{placed_in};
 
 use crate::layout::{Body, Slice};
 use crate::member::{Kind, Member};
-use crate::slots::{count_slots, next_number, numbered_slot};
+use crate::slots::{count_slots, entry_of, is_slice_type, next_number, numbered_slot};
+use pt_gpt::Entry;
 use pt_mbr::FIRST_LOGICAL;
 use std::alloc::{AllocError, Global};
 
@@ -33,22 +34,24 @@ fn placed(sectors: u64, m: &Member) -> Option<Slice>
     })
 }
 
-// Whether what stands in a place is an unused entry of a GPT. Most are, and no member is made to see it.
-#[tactic(auto, using(crate::proofs::ByPlace::gpt_at, crate::proofs::ByPlace::gpt_len))]
-fn is_unused<const B: usize>(body: &Body, k: usize) -> bool
-    requires { k < length (slots B body.now) }
-    ensures { IsTrue result → slice_index_or (slots B body.now) k None ≡ None }
+// The slice that an entry of this number is, where it is one and has a label place on a disk of so many sectors. Most are none,
+// and no member is made to see it.
+fn placed_entry<const B: usize>(sectors: u64, number: u64, entry: &Option<Entry>) -> Option<Slice>
+    ensures value { option_to_list result ≡ placed_in sectors (option_map (entry_member B number) entry.now) }
+    ensures within { IfSome result (λ s. s.first + 1 < sectors) }
 {
-    match body {
-        Body::Mbr { .. } => false,
-        Body::Gpt(table) => match &table.entries.as_slice()[k] {
-            Some(_) => false,
-            None => true,
-        },
+    let entry = match entry {
+        Some(entry) => entry,
+        None => return None,
+    };
+    if B != 512 || !is_slice_type(&entry.kind) {
+        return None;
     }
+    placed(sectors, &entry_of::<B>(number, entry))
 }
 
 // The slice in a place, where it has a label place on a disk of so many sectors.
+#[tactic(auto, using(crate::proofs::ByPlace::gpt_at, crate::proofs::ByPlace::gpt_len))]
 pub(crate) fn placed_at<const B: usize>(
     sectors: u64,
     body: &Body,
@@ -60,8 +63,9 @@ pub(crate) fn placed_at<const B: usize>(
     ensures value { option_to_list result ≡ placed_in sectors (slice_index_or (slots B body.now) k None) }
     ensures within { IfSome result (λ s. s.first + 1 < sectors) }
 {
-    if is_unused::<B>(body, k) {
-        return None;
+    if let Body::Gpt(table) = body {
+        let entries = table.entries.as_slice();
+        return placed_entry::<B>(sectors, 1 + k as u64, &entries[k]);
     }
     let m = numbered_slot::<B>(body, k, number)?;
     placed(sectors, &m)
@@ -74,6 +78,25 @@ fn push_place(places: &mut Vec<Slice>, place: Option<Slice>) -> Result<(), Alloc
         places.push(slice)?;
     }
     Ok(())
+}
+
+// The slices among entries that have a label place on a disk of so many sectors.
+#[tactic(auto, using(crate::proofs::LabelPlaces::placed_more, crate::proofs::ByPlace::entry_at, crate::proofs::ByPlace::entries_len))]
+fn entry_places<const B: usize>(
+    alloc: Global,
+    sectors: u64,
+    entries: &[Option<Entry>],
+) -> Result<Vec<Slice>, AllocError>
+    ensures { IfOk result (λ v. v.items ≡ filter (has_place sectors) (flat_map slice_in (entries_as B 1 entries.now))) }
+{
+    let mut places = Vec::new(alloc);
+    for k in 0..entries.len() {
+        push_place(
+            &mut places,
+            placed_entry::<B>(sectors, 1 + k as u64, &entries[k]),
+        )?;
+    }
+    Ok(places)
 }
 
 /// The slices that have a label place on a disk of so many sectors, in order of their numbers.
@@ -89,6 +112,9 @@ pub fn label_places<const B: usize>(
     ensures value { IfOk result (λ v. v.items ≡ places_of B sectors body.now) }
     ensures four { HasFour body.now }
 {
+    if let Body::Gpt(table) = body {
+        return entry_places::<B>(alloc, sectors, table.entries.as_slice());
+    }
     let mut places = Vec::new(alloc);
     let mut number = FIRST_LOGICAL;
     for k in 0..count_slots::<B>(body) {

@@ -13,22 +13,21 @@ use crate::layout::{Body, Labelled, Labels};
 use crate::member::{Kind, Member};
 use pt_bsd::{Label, LabelEntry, RAW};
 use pt_gpt::Entry;
-use pt_guid::{Guid, type_of_code};
+use pt_guid::Guid;
 use pt_mbr::{Ebr, FIRST_LOGICAL, Record, SLICE_KIND, is_extended_kind};
 use pt_path::Path;
 use pt_sector::Lba;
 
-/// The type code of slices in a GPT.
-const SLICE_CODE: u16 = 0xA500;
+/// The type of slices in a GPT as a disk stores it: 516E7CB4-6ECF-11D6-8FF8-00022D09712B, of type code A500.
+const SLICE_TYPE: Guid = Guid([
+    0xB4, 0x7C, 0x6E, 0x51, 0xCF, 0x6E, 0xD6, 0x11, 0x8F, 0xF8, 0x00, 0x02, 0x2D, 0x09, 0x71, 0x2B,
+]);
 
 /// Whether a GPT entry of this type is a slice: its type code is A500.
 pub fn is_slice_type(kind: &Guid) -> bool
     ensures { result ≡ is_slice_kind kind.now.0 }
 {
-    match type_of_code(SLICE_CODE) {
-        Some(slice) => kind.0 == slice.0,
-        None => false,
-    }
+    *kind == SLICE_TYPE
 }
 
 fn record_kind_of<const B: usize>(kind: u8) -> Kind
@@ -53,7 +52,7 @@ fn logical_kind_of<const B: usize>(kind: u8) -> Kind
     }
 }
 
-// Of a start and a size that count from a sector.
+// A member from a start and a size relative to `at`.
 fn sized(path: Path, kind: Kind, at: u64, start: u32, size: u32) -> Member
     ensures value { result ≡ sized_member path kind (at + start) size }
     ensures small { result.first < 2 ^ 66 }
@@ -113,7 +112,7 @@ fn entry_kind_of<const B: usize>(kind: &Guid) -> Kind
     }
 }
 
-fn entry_of<const B: usize>(number: u64, e: &Entry) -> Member
+pub(crate) fn entry_of<const B: usize>(number: u64, e: &Entry) -> Member
     ensures value { result ≡ entry_member B number e.now }
     ensures small { result.first < 2 ^ 66 }
 {

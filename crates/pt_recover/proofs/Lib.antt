@@ -8,7 +8,9 @@ pub mod Nothing
 pub mod One
 pub mod Reasons
 pub mod Results
+pub mod Roles
 pub mod Same
+pub mod SameReads
 pub mod Searched
 pub mod Sides
 pub mod Terms

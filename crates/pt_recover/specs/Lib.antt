@@ -1,3 +1,4 @@
+pub mod Alike
 pub mod Denotes
 pub mod FromSides
 pub mod Sentences

@@ -13,7 +13,7 @@ use crate::error::NoTable;
 use crate::extended::read_lone;
 use crate::tables::read_either;
 use crate::trace::Trace;
-use pt_gpt::has_room;
+use pt_gpt::{LastArray, has_room};
 use pt_mbr::{Mbr, bears_protective, decode_mbr};
 use pt_members::Body;
 use pt_sector::{Disk, FailedRead, Lba, Sector, read_sector};
@@ -60,6 +60,7 @@ fn read_gpt<const B: usize, D: Disk<B>>(
     alloc: Global,
     disk: &mut D,
     trace: &mut Trace,
+    last: &mut LastArray,
 ) -> Result<Body, NoTable>
     requires size { IsSectorSize B }
     requires no_mbr { D.tells → ¬ IsMbrDisk (D.told disk.old).seen }
@@ -75,7 +76,7 @@ fn read_gpt<const B: usize, D: Disk<B>>(
     if !has_room::<B>(sectors) {
         return Err(NoTable::TooSmall);
     }
-    let table = read_either(alloc, disk, trace)?;
+    let table = read_either(alloc, disk, trace, last)?;
     Ok(Body::Gpt(table))
 }
 
@@ -122,12 +123,34 @@ pub fn body_of<const B: usize, D: Disk<B>>(
     ensures traced { D.tells → OnOk result (Adds trace.old trace.new (BodyReads B (D.told disk.old).seen)) }
     ensures traced_err { D.tells → IfErr result (λ e. IsOutsideDisk e ⊎ Adds trace.old trace.new (BodyReads B (D.told disk.old).seen)) }
 {
+    let mut last = LastArray::new(alloc);
+    body_after(alloc, disk, known, trace, &mut last)
+}
+
+/// The same, where an array isn't summed that has the bytes of the last one.
+pub(crate) fn body_after<const B: usize, D: Disk<B>>(
+    alloc: Global,
+    disk: &mut D,
+    known: &Option<Mbr>,
+    trace: &mut Trace,
+    last: &mut LastArray,
+) -> Result<Body, NoTable>
+    requires size { IsSectorSize B }
+    requires known { D.tells → IfSome known.now (λ m. IsMbr (D.told disk.old).seen m.records) }
+    ensures same { OnlyReads D.Disk disk.old disk.new }
+    ensures blames { Blames fault_in result (D.faults disk.old) (D.faults disk.new) }
+    ensures place { D.tells → IfErr result (FailedInDisk (BodyReads B (D.told disk.old).seen)) }
+    ensures ok { D.tells → IfOk result (λ y. BodyIs B (D.told disk.old).seen y) }
+    ensures err { D.tells → IfErr result (λ e. TellsNothing B (D.told disk.old).seen e) }
+    ensures traced { D.tells → OnOk result (Adds trace.old trace.new (BodyReads B (D.told disk.old).seen)) }
+    ensures traced_err { D.tells → IfErr result (λ e. IsOutsideDisk e ⊎ Adds trace.old trace.new (BodyReads B (D.told disk.old).seen)) }
+{
     if disk.sectors() == 0 {
         return Err(NoTable::TooSmall);
     }
     trace.add_one(0)?;
     match read_records(disk, known)? {
         Some(mbr) => read_mbr(alloc, disk, &mbr, trace),
-        None => read_gpt(alloc, disk, trace),
+        None => read_gpt(alloc, disk, trace, last),
     }
 }

@@ -5,6 +5,7 @@
 //! exactly. The laws of src/laws.rt stand as terms in proofs/Terms.antt, for contracts above to cite.
 #![tactic(auto)]
 
+mod alike;
 mod body;
 mod error;
 mod extended;
@@ -16,11 +17,12 @@ mod side;
 mod tables;
 mod trace;
 
+pub use alike::{alike_decides, is_alike};
 pub use body::{body_of, records_of};
 pub use error::NoTable;
 pub use labels::traced_labels;
 pub use pt_members::{Body, Ebrs, Labelled, Labels, Layout, Slice, is_slice_type, label_places};
-pub use recovery::{recover, recover_known, recover_traced};
+pub use recovery::{recover, recover_after, recover_known, recover_traced};
 pub use side::{SideError, recover_from};
 pub use tables::traced_copy;
 pub use trace::Trace;

@@ -8,11 +8,12 @@ ghost use Rattle.pt_recover.specs.Denotes.{Denotes, Reads, IsMbr, Numbers, IsOut
 ghost use Rattle.pt_recover.specs.Denotes.{IsTraceOf};
 ghost use Rattle.pt_recover.specs.Spans.{Adds};
 
-use crate::body::body_of;
+use crate::body::body_after;
 use crate::error::NoTable;
 use crate::labels::traced_labels;
 use crate::numbers::body_numbers;
 use crate::trace::Trace;
+use pt_gpt::LastArray;
 use pt_mbr::Mbr;
 use pt_members::{Layout, label_places};
 use pt_sector::Disk;
@@ -24,6 +25,7 @@ fn recover_into<const B: usize, D: Disk<B>>(
     disk: &mut D,
     known: &Option<Mbr>,
     trace: &mut Trace,
+    last: &mut LastArray,
 ) -> Result<Layout, NoTable>
     requires size { IsSectorSize B }
     requires known { D.tells → IfSome known.now (λ m. IsMbr (D.told disk.old).seen m.records) }
@@ -37,7 +39,7 @@ fn recover_into<const B: usize, D: Disk<B>>(
     ensures traced_err { D.tells → IfErr result (λ e. IsOutsideDisk e ⊎ Adds trace.old trace.new (Reads B (D.told disk.old).seen)) }
 {
     let sectors = disk.sectors();
-    let body = body_of(alloc, disk, known, trace)?;
+    let body = body_after(alloc, disk, known, trace, last)?;
     body_numbers(&body);
     let places = label_places::<B>(alloc, sectors, &body)?;
     let labels = traced_labels(alloc, disk, &places, trace)?;
@@ -97,7 +99,29 @@ pub fn recover_known<const B: usize, D: Disk<B>>(
     ensures traced { D.tells → OnOk result.0 (IsTraceOf B (D.told disk.old).seen result.1) }
     ensures traced_err { D.tells → IfErr result.0 (λ e. IsOutsideDisk e ⊎ IsTraceOf B (D.told disk.old).seen result.1) }
 {
+    let mut last = LastArray::new(alloc);
+    recover_after(alloc, disk, known, &mut last)
+}
+
+/// The same, where an array isn't summed that has the bytes of the last one.
+pub fn recover_after<const B: usize, D: Disk<B>>(
+    alloc: Global,
+    disk: &mut D,
+    known: Option<Mbr>,
+    last: &mut LastArray,
+) -> (Result<Layout, NoTable>, Trace)
+    requires size { IsSectorSize B }
+    requires known { D.tells → IfSome known (λ m. IsMbr (D.told disk.old).seen m.records) }
+    ensures same { OnlyReads D.Disk disk.old disk.new }
+    ensures blames { Blames fault_in result.0 (D.faults disk.old) (D.faults disk.new) }
+    ensures place { D.tells → IfErr result.0 (FailedInDisk (Reads B (D.told disk.old).seen)) }
+    ensures ok { D.tells → IfOk result.0 (λ o. Denotes B (D.told disk.old).seen (Some o)) }
+    ensures numbers { IfOk result.0 Numbers }
+    ensures err { D.tells → IfErr result.0 (λ e. TellsNothing B (D.told disk.old).seen e) }
+    ensures traced { D.tells → OnOk result.0 (IsTraceOf B (D.told disk.old).seen result.1) }
+    ensures traced_err { D.tells → IfErr result.0 (λ e. IsOutsideDisk e ⊎ IsTraceOf B (D.told disk.old).seen result.1) }
+{
     let mut trace = Trace::new(alloc);
-    let answer = recover_into(alloc, disk, &known, &mut trace);
+    let answer = recover_into(alloc, disk, &known, &mut trace, last);
     (answer, trace)
 }

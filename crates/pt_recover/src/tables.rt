@@ -12,7 +12,9 @@ ghost use Rattle.pt_recover.specs.Spans.{Adds};
 
 use crate::error::NoTable;
 use crate::trace::Trace;
-use pt_gpt::{CopyError, Header, Side, Table, counted_sectors, header_at, read_head, read_table};
+use pt_gpt::{
+    CopyError, Header, LastArray, Side, Table, counted_sectors, header_at, read_head, read_table,
+};
 use pt_sector::Disk;
 use std::alloc::{AllocError, Global};
 
@@ -32,12 +34,14 @@ fn trace_array<const B: usize>(
     trace.add(header.array, header.array + (count - 1))
 }
 
-/// A side's copy, header and table, with the sectors that decide the side added to the trace.
+/// A side's copy, header and table, with the sectors that decide the side added to the trace. Its array isn't summed where it has the
+/// bytes of the last one.
 pub fn traced_copy<const B: usize, D: Disk<B>>(
     alloc: Global,
     disk: &mut D,
     side: Side,
     trace: &mut Trace,
+    last: &mut LastArray,
 ) -> Result<(Header, Table), CopyError>
     requires size { IsSectorSize B }
     requires room { HasRoom B (D.count disk.old) }
@@ -55,7 +59,7 @@ pub fn traced_copy<const B: usize, D: Disk<B>>(
     trace.add_one(header_at(side, sectors))?;
     let header = read_head(disk, side)?;
     trace_array::<B>(&header, side, sectors, trace)?;
-    let table = read_table(alloc, disk, side, &header)?;
+    let table = read_table(alloc, disk, side, &header, last)?;
     Ok((header, table))
 }
 
@@ -64,6 +68,7 @@ pub(crate) fn read_either<const B: usize, D: Disk<B>>(
     alloc: Global,
     disk: &mut D,
     trace: &mut Trace,
+    last: &mut LastArray,
 ) -> Result<Table, NoTable>
     requires size { IsSectorSize B }
     requires room { HasRoom B (D.count disk.old) }
@@ -75,7 +80,7 @@ pub(crate) fn read_either<const B: usize, D: Disk<B>>(
     ensures traced { D.tells → OnOk result (Adds trace.old trace.new (TableReads B (D.told disk.old).seen)) }
     ensures traced_err { D.tells → IfErr result (λ e. IsOutsideDisk e ⊎ Adds trace.old trace.new (TableReads B (D.told disk.old).seen)) }
 {
-    let primary = match traced_copy(alloc, disk, Side::Primary, trace) {
+    let primary = match traced_copy(alloc, disk, Side::Primary, trace, last) {
         Ok((_, table)) => return Ok(table),
         Err(e) => e,
     };
@@ -83,7 +88,7 @@ pub(crate) fn read_either<const B: usize, D: Disk<B>>(
         Some(failure) => return Err(NoTable::from(failure)),
         None => {}
     }
-    let backup = match traced_copy(alloc, disk, Side::Backup, trace) {
+    let backup = match traced_copy(alloc, disk, Side::Backup, trace, last) {
         Ok((_, table)) => return Ok(table),
         Err(e) => e,
     };

@@ -11,6 +11,9 @@ ghost use Rattle.pt_members.specs.declared.layout.Layout.{Layout};
 ghost use Rattle.pt_layout.specs.Sound.{Sound};
 ghost use Rattle.pt_layout.specs.declared.sound.finding.Finding.{Finding};
 ghost use Rattle.pt_cases.specs.Keeps.{Keeps};
+ghost use Rattle.pt_cases.specs.Kept.{IsKept, IsPlanBy};
+ghost use Rattle.pt_cases.specs.NewMbr.{UnplannedBy};
+ghost use Rattle.pt_cases.specs.declared.primary.Primary.TheVariants.{Kept};
 ghost use Rattle.pt_cases.specs.Cases.{ChangesLabels, IsPlan, MayBePlanned, HadMbr};
 ghost use Rattle.pt_cases.specs.Unplanned.{WritesBoth, SharesSector, IsReused, IsFailure, LabelsFit, HasUnreadable, HasUnmade};
 ghost use Rattle.pt_cases.specs.Unplanned.{IsUnmendable, IsUnmendableBy, NoSwitch, Unplanned};
@@ -110,4 +113,12 @@ pub fn errors_come_in_order()
 pub fn error_is_one()
     ensures { (b : ℕ) (d : Sectors) (o : Option Layout) (p : Layout) (e f : PlanError) → IsSectorSize b → Denotes b d o
         → Keeps b (length d) o p → Unplanned b d p e → Unplanned b d p f → ¬ IsFailure e → ¬ IsFailure f → e ≡ f }
+{}
+
+/// Words make no MBR where none was: with the primary copy kept they have the plans and the errors that they have without one.
+pub fn edits_make_no_new_mbr()
+    ensures planned { (b : ℕ) (d : Sectors) (o : Option Layout) (p : Layout) (phases : List Writes) → Denotes b d o
+        → Keeps b (length d) o p → IsPlanBy Kept b d p phases → IsKept b d p phases }
+    ensures refused { (b : ℕ) (d : Sectors) (o : Option Layout) (p : Layout) (e : PlanError) → Denotes b d o
+        → Keeps b (length d) o p → UnplannedBy Kept b d p e → ¬ IsFailure e → Unplanned b d p e }
 {}

@@ -1,6 +1,7 @@
 -- The checker's answer, and the first reason for its no: what private contracts cite.
 use Rattle.std.specs.Prelude.{◌≡◌, ℕ, ◌+◌, List, Option, Some, None, ◌≤◌, length, ◌⊎◌, ◌<◌, IsSome}
-use Rattle.pt_sector.specs.Sectors.{Writes, Sectors, sector, Puts}
+use Rattle.pt_sector.specs.Sectors.{Writes, Sectors, Puts}
+use Rattle.pt_recover.specs.Alike.{IsAlike}
 use Rattle.pt_apply.specs.Plans.{NoneIs, writes_in, InRange, phases_of}
 use Rattle.pt_check.specs.declared.objection.Found.{Found}
 use Rattle.pt_check.specs.Answers.{IsFirst, FirstWrite, IsFit, most_writes, switch_number, Answers, InNoTable, InOwned, phase_at, Course}
@@ -79,9 +80,14 @@ abbrev pub TouchedIs : (ℕ → Type 0) → Writes → Option Lba → Type 0
 TouchedIs S ws None = (length ws ≤ 1) ⊎ NoneIs (λ (w : ℕ × List ℕ). S w.0) ws
 TouchedIs S ws (Some lba) = (1 < length ws) × ((k : ℕ) × (w : ℕ × List ℕ) × (lba.0 ≡ w.0) × IsFirst (λ (v : ℕ × List ℕ). S v.0) ws k w)
 
--- each write of a sector in S is of the bytes that d has there
-abbrev pub KeepsRead : (ℕ → Type 0) → Sectors → Writes → Type 0
-KeepsRead S d ws = (s : ℕ) (v : List ℕ) → Puts ws s v → S s → v ≡ sector d s
+-- each write of a sector in S is alike to the bytes that d has there
+abbrev pub KeepsRead : ℕ → (ℕ → Type 0) → Sectors → Writes → Type 0
+KeepsRead b S d ws = (s : ℕ) (v : List ℕ) → Puts ws s v → S s → IsAlike b d s v
+
+-- the layout after phases with this switch: the old one before it, the new one from it on
+abbrev pub current_of : {L : Type 0} → Option L → Option L → Option ℕ → Option L
+current_of old new None = old
+current_of old new (Some s) = new
 
 -- the switch so far, which is the phase of this number where it gave the new layout as the first; or neither layout
 abbrev pub StepIs : {L : Type 0} → Option L → Option L → Option L → Option ℕ → ℕ → Step → Type 0

@@ -24,19 +24,19 @@ returns-in_err-room-clause-same g c = g.met.D.Disk.reads_same c.args.disk.now
 
 pub returns-in_err-told-clause-same : goal.returns-in_err-told-clause-same
 returns-in_err-told-clause-same g c =
-    let same : OnlyReads g.D.Disk c.args.disk.now c.survey_disk.new.disk.disk.now =
+    let same : OnlyReads g.D.Disk c.args.disk.now c.survey_after.new.disk.disk.now =
     rw (c.put_plan.ensures.disk, c.new-over.ensures.disk) at c.in_err-told.ensures.same.through.0.below in
     search (rules, same)
 
 pub returns-clause-same : goal.returns-clause-same
 returns-clause-same g c =
-    let same : OnlyReads g.D.Disk c.args.disk.now c.survey_disk.new.disk.disk.now =
+    let same : OnlyReads g.D.Disk c.args.disk.now c.survey_after.new.disk.disk.now =
     rw (c.put_plan.ensures.disk, c.new-over.ensures.disk) at c.in_ok-told.ensures.same.through.0.below in
     search (rules, same)
 
 pub returns-clause-blames : goal.returns-clause-blames
 returns-clause-blames g c =
-    let quiet : g.D.Disk.faults c.survey_disk.new.disk.disk.now ≡ g.D.Disk.faults c.args.disk.now =
+    let quiet : g.D.Disk.faults c.survey_after.new.disk.disk.now ≡ g.D.Disk.faults c.args.disk.now =
     blames_below g.D.Disk fault_of (Ok c.in_ok-told.told) _ _ _ _ c.in_ok-told.ensures.same.through.0 c.in_ok-told.ensures.blames
     ∙ ap g.D.Disk.faults (c.put_plan.ensures.disk ∙ c.new-over.ensures.disk) in
     search (rules, quiet)
@@ -55,11 +55,11 @@ pub returns-in_err-told-clause-blames : goal.returns-in_err-told-clause-blames
 returns-in_err-told-clause-blames g c =
     let p = err_from_is_err_and c.from_residual-in_err-told.result c.from_residual-in_err-told.ensures.1 in
     let e = c.in_err-told.field-0.0 in
-    let below : g.D.Disk.faults c.survey_disk.new.disk.disk.now ≡ with_fault (g.D.Disk.faults c.put_plan.new.over.disk.now) (fault_of e) =
+    let below : g.D.Disk.faults c.survey_after.new.disk.disk.now ≡ with_fault (g.D.Disk.faults c.put_plan.new.over.disk.now) (fault_of e) =
     blames_below g.D.Disk {T = Survey} fault_of (Err e) _ _ _ _ c.in_err-told.ensures.same.through.0 c.in_err-told.ensures.blames in
-    let here : g.D.Disk.faults c.survey_disk.new.disk.disk.now ≡ with_fault (g.D.Disk.faults c.args.disk.now) (fault_of e) =
+    let here : g.D.Disk.faults c.survey_after.new.disk.disk.now ≡ with_fault (g.D.Disk.faults c.args.disk.now) (fault_of e) =
     rw (c.put_plan.ensures.disk, c.new-over.ensures.disk) at below in
-    let blames : g.D.Disk.faults c.survey_disk.new.disk.disk.now ≡ with_fault
+    let blames : g.D.Disk.faults c.survey_after.new.disk.disk.now ≡ with_fault
     (g.D.Disk.faults c.args.disk.now) (fault_in (told_failure e)) =
     failure_blames _ _ e here in
     rw (p.1, p.2) (search (rules, blames))

@@ -1,4 +1,4 @@
-use Rattle.std.proofs.Common.{rules, ◌≡◌, ◌∙◌, ℕ, ◌+◌, ◌<◌, Bool, sym, ap, subst, arith, length, Some, None, Ok, Err}
+use Rattle.std.proofs.Common.{rules, ◌≡◌, ◌∙◌, ℕ, ◌+◌, ◌<◌, Bool, sym, ap, subst, arith, length, Option, Some, None, Ok, Err}
 use Rattle.std.proofs.lemmas.Result.{err_from_is_err_and}
 use Rattle.pt_sector.specs.Sectors.{Writes, Sectors}
 use Rattle.pt_sector.specs.Device.{with_fault, Told}
@@ -6,6 +6,7 @@ use Rattle.pt_sector.specs.Overlays.{OnlyReads, read_of, room_left, shown, own_w
 use Rattle.pt_sector.specs.declared.own.Own.{Own}
 use Rattle.pt_sector.proofs.ReadsLemmas.{blames_below, failed_outside}
 use Rattle.pt_apply.specs.Plans.{phases_of, writes_of}
+use Rattle.pt_members.specs.declared.layout.Layout.{Layout}
 use Rattle.pt_recover.specs.Denotes.{Denotes, Reads}
 use Rattle.pt_recover.proofs.Terms.{denotes_one_lem}
 use Rattle.pt_recover.specs.Spans.{IsIn}
@@ -15,7 +16,7 @@ use Rattle.pt_check.specs.declared.recovered.Recovered.{Recovered}
 use Rattle.pt_check.proofs.Firsts.{length-phases, count_on, lent_phase, index_within, seen_on, count_within}
 use Rattle.pt_check.proofs.Outside.{recovered_parts}
 use Rattle.pt_check.proofs.Trying.{course_none, refused_read, refused_neither, course_on}
-use Rattle.pt_check.proofs.Quiet.{reading_kept, passed_kept}
+use Rattle.pt_check.proofs.Quiet.{course_now, reading_kept, passed_kept}
 use Rattle.pt_check.proofs.Settled.{settled_trial}
 use Rattle.pt_check.proofs.Reading.{phase_failed, sector_failed}
 use Rattle.pt_check.proofs.trial.try_phases.Goals as goal
@@ -48,6 +49,17 @@ returns-in-Some-clause-tried g c =
       c.len-i-end.ensures,
       c.args.plan.now.phases.ok,
     )) c.index-phase.ensures c.deref.result.now c.deref.ensures.value) c.in-Some.ensures)
+
+pub keeps_read-requires : goal.keeps_read-requires
+keeps_read-requires g c =
+    let phases = phases_of c.args.plan.now in
+    let d = (g.D.Disk.told c.args.disk.now).seen in
+    let denoted = λ (tells : g.D.Disk.tells).
+    subst (λ (x : Sectors). Denotes g.row.B x c.current.result.now) (sym (c.loop-i.invariant.seen tells))
+    (subst (λ (o : Option Layout). Denotes g.row.B (disk_after phases d c.loop-i.i) o) (sym c.current.ensures)
+    (course_now (Denotes g.row.B) (Reads g.row.B) phases d c.args.layouts.now.old c.args.layouts.now.new c.loop-i.i c.loop-i.switch
+    (c.loop-i.invariant.course tells))) in
+    search (rules, denoted)
 
 pub put_phase-requires : goal.put_phase-requires
 put_phase-requires g c = (
@@ -248,9 +260,9 @@ loop-i-preserved-then-keeps g c =
     let below = index_within c.args.plan.now.phases.items c.loop-i.i lt in
     let lent = lent_phase c.args.plan.now.phases.items c.loop-i.i c.index-phase.result.now lt c.index-phase.ensures in
     let kept = λ (tells : g.D.Disk.tells).
-    subst (λ (ws : Writes). KeepsRead (IsIn c.loop-i.before) (disk_after phases d c.loop-i.i) ws)
+    subst (λ (ws : Writes). KeepsRead g.row.B (IsIn c.loop-i.before) (disk_after phases d c.loop-i.i) ws)
     (lent c.deref-in-loop-i.result.now c.deref-in-loop-i.ensures.value)
-    (subst (λ (x : Sectors). KeepsRead (IsIn c.loop-i.before) x (writes_of c.deref-in-loop-i.result.now))
+    (subst (λ (x : Sectors). KeepsRead g.row.B (IsIn c.loop-i.before) x (writes_of c.deref-in-loop-i.result.now))
     (c.loop-i.invariant.seen tells) (c.in_ok-keeps.ensures.kept tells c.if-keeps.true)) in
     let same_here : OnlyReads g.D.Disk c.args.disk.now c.keeps_read.new.disk.disk.now =
     g.met.D.Disk.reads_on _ _ _ c.loop-i.invariant.same c.in_ok-keeps.ensures.same.through.0.below in

@@ -1,4 +1,4 @@
-use Rattle.pt_members.proofs.LabelPlaces.{placed_before, placed_more, placed_end}
+use Rattle.pt_members.proofs.LabelPlaces.{placed_before, placed_more, placed_end, gpt_places}
 use Rattle.pt_members.specs.declared.layout.Slice.{Slice}
 use Rattle.pt_members.specs.declared.member.Member.{Member}
 use Rattle.pt_members.specs.Members.{slots}
@@ -32,3 +32,8 @@ pub returns-clause-value : goal.returns-clause-value
 returns-clause-value g c =
     c.loop-k.invariant.places
     ∙ placed_end g.row.B c.args.sectors c.loop-k.k c.args.body.now (omega (arith, c.count_slots-k-end.ensures.value))
+
+pub returns-in-Gpt-clause-value : goal.returns-in-Gpt-clause-value
+returns-in-Gpt-clause-value g c =
+    rw (← gpt_places g.row.B c.args.sectors c.args.body.now c.in-Gpt.table c.as_slice.result.now c.in-Gpt.is c.as_slice.ensures)
+    c.entry_places.ensures

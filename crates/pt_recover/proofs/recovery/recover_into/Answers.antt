@@ -23,18 +23,18 @@ pub returns-in_err-body-clause-traced_err : goal.returns-in_err-body-clause-trac
 returns-in_err-body-clause-traced_err g c = λ tells.
     let p = err_from_is_err_and c.from_residual.result c.from_residual.ensures.1 in
     rw (p.1, p.2)
-    (none_read g.row.B (g.D.Disk.told c.args.disk.now).seen c.in_err-body.field-0.0 c.args.trace.now c.body_of.new.trace
+    (none_read g.row.B (g.D.Disk.told c.args.disk.now).seen c.in_err-body.field-0.0 c.args.trace.now c.body_after.new.trace
     (c.in_err-body.ensures.err tells) (c.in_err-body.ensures.traced_err tells))
 
 pub traced_labels-requires-clause-within : goal.traced_labels-requires-clause-within
 traced_labels-requires-clause-within g c =
-    places_within g.row.B c.sectors-sectors.result (g.D.Disk.count c.body_of.new.disk) c.in_ok-body.body c.deref.result.now
+    places_within g.row.B c.sectors-sectors.result (g.D.Disk.count c.body_after.new.disk) c.in_ok-body.body c.deref.result.now
     (c.deref.ensures.value ∙ c.in_ok-places.ensures.value) (c.sectors-sectors.ensures ∙ sym c.in_ok-body.ensures.same.same_count)
 
 pub returns-clause-traced : goal.returns-clause-traced
 returns-clause-traced g c = λ tells.
     all_read g.row.B c.sectors-sectors.result
-    (g.D.Disk.told c.args.disk.now).seen c.in_ok-body.body c.deref.result.now c.args.trace.now c.body_of.new.trace
+    (g.D.Disk.told c.args.disk.now).seen c.in_ok-body.body c.deref.result.now c.args.trace.now c.body_after.new.trace
     c.traced_labels.new.trace
     (c.in_ok-body.ensures.ok tells) (c.deref.ensures.value ∙ c.in_ok-places.ensures.value)
     (c.sectors-sectors.ensures ∙ sym (g.met.D.Disk.sized c.args.disk.now tells))
@@ -65,14 +65,16 @@ returns-clause-ok g c = λ tells.
 
 pub returns-clause-same : goal.returns-clause-same
 returns-clause-same g c =
-    g.met.D.Disk.reads_on c.args.disk.now c.body_of.new.disk c.traced_labels.new.disk c.in_ok-body.ensures.same c.in_ok-labels.ensures.same
+    g.met.D.Disk.reads_on c.args.disk.now c.body_after.new.disk c.traced_labels.new.disk c.in_ok-body.ensures.same
+    c.in_ok-labels.ensures.same
 
 pub returns-clause-blames : goal.returns-clause-blames
 returns-clause-blames g c = c.in_ok-labels.ensures.blames ∙ c.in_ok-body.ensures.blames
 
 pub returns-in_err-labels-clause-same : goal.returns-in_err-labels-clause-same
 returns-in_err-labels-clause-same g c =
-    g.met.D.Disk.reads_on c.args.disk.now c.body_of.new.disk c.traced_labels.new.disk c.in_ok-body.ensures.same c.in_err-labels.ensures.same
+    g.met.D.Disk.reads_on c.args.disk.now c.body_after.new.disk c.traced_labels.new.disk c.in_ok-body.ensures.same
+    c.in_err-labels.ensures.same
 
 pub returns-in_err-labels-clause-blames : goal.returns-in_err-labels-clause-blames
 returns-in_err-labels-clause-blames g c =

@@ -13,7 +13,7 @@ use Rattle.pt_recover.specs.declared.trace.TracedRun.{TracedRun}
 use Rattle.pt_recover.proofs.Bodies.{some_sector, body_read, body_read_or, no_sector, no_sector_read}
 use Rattle.pt_recover.proofs.Failed.{body_failed}
 use Rattle.pt_mbr.specs.declared.mbr.Mbr.{Mbr}
-use Rattle.pt_recover.proofs.body.body_of.Goals as goal
+use Rattle.pt_recover.proofs.body.body_after.Goals as goal
 
 -- what the rest of a disk gives after sector 0, with another disk's value for what was seen
 traced_rest : {A E : Type 0} (b : ℕ) (d : Sectors) (t : Told) (old mid new : List TracedRun) (r : Result A E) → 0 < length d → t.seen ≡ d

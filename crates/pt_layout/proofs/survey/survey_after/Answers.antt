@@ -15,7 +15,7 @@ use Rattle.pt_sector.proofs.CallsLemmas.{blames_after}
 use Rattle.pt_sector.specs.Overlays.{FailedIn, fault_of}
 use Rattle.pt_recover.proofs.Bodies.{some_sector}
 use Rattle.pt_layout.specs.Healthy.{VerdictReads}
-use Rattle.pt_layout.proofs.survey.survey_disk.Goals as goal
+use Rattle.pt_layout.proofs.survey.survey_after.Goals as goal
 
 pub returns-then-sectors-eq0-clause-ok : goal.returns-then-sectors-eq0-clause-ok
 returns-then-sectors-eq0-clause-ok g c = λ tells.

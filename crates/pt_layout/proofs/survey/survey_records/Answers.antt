@@ -10,7 +10,7 @@ use Rattle.pt_layout.proofs.Surveys.{reason_survey, nothing_numbers}
 use Rattle.pt_sector.proofs.CallsLemmas.{blames_after}
 use Rattle.pt_sector.specs.Overlays.{fault_of}
 use Rattle.pt_layout.specs.Surveys.{IsSurvey}
-use Rattle.pt_layout.proofs.survey.survey_mbr.Goals as goal
+use Rattle.pt_layout.proofs.survey.survey_records.Goals as goal
 
 pub survey_layout-requires-clause-traced : goal.survey_layout-requires-clause-traced
 survey_layout-requires-clause-traced g c = λ tells.
