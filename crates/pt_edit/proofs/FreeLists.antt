@@ -1,6 +1,6 @@
 -- Lists of blocks, place by place.
 use Rattle.std.proofs.Common.{◌≡◌, ◌∙◌, ◌<◌, ◌≤◌, ◌+◌, ℕ, List, [], ◌∷◌, ◌++◌, append-nil, append_assoc, length, get_or, take, ap, refl}
-use Rattle.std.proofs.Common.{subst, sym}
+use Rattle.std.proofs.Common.{ap₂, subst, sym}
 use Rattle.std.specs.Prelude.{flat_map, map}
 use Rattle.std.proofs.lemmas.List.{flat_map_more, take_all, take_more}
 use Rattle.pt_edit.specs.declared.free.FreeBlock.{FreeBlock}
@@ -8,6 +8,7 @@ use Rattle.pt_edit.specs.declared.space.space.Run.{Run}
 use Rattle.pt_edit.specs.Free.{AreFree, Place, block_of}
 use Rattle.pt_edit.specs.Space.{AreBlocks}
 use Rattle.pt_edit.specs.inner.Free.{Adds}
+use Rattle.pt_edit.proofs.AllBlocks.{blocks_are_one}
 
 free_append : (ps qs : List Place) (xs ys : List FreeBlock) → AreFree ps xs → AreFree qs ys → AreFree (ps ++ qs) (xs ++ ys)
 free_append [] qs xs ys is also = subst (λ (l : List FreeBlock). AreFree qs (l ++ ys)) (sym is) also
@@ -58,3 +59,11 @@ pub all_three : (n : Place) (ms ns : List Place) (ws xs ys zs : List FreeBlock) 
     → Adds ns ys zs → AreFree (n ∷ (ms ++ ns)) zs
 all_three n ms ns ws xs ys zs none one two three =
     adds_both (n ∷ []) (ms ++ ns) ws xs zs one (adds_both ms ns xs ys zs two three) [] none
+
+-- one list of all
+pub free_is_one : (ps : List Place) (xs ys : List FreeBlock) → AreFree ps xs → AreFree ps ys → xs ≡ ys
+free_is_one [] xs ys one two = one ∙ sym two
+free_is_one (p ∷ ps) xs ys one two =
+    let runs = blocks_are_one p.area one.0 two.0 one.2 two.2 in
+    let rest = free_is_one ps one.1 two.1 one.3 two.3 in
+    one.4 ∙ ap₂ (λ (rs : List Run) (l : List FreeBlock). map (block_of p.inside) rs ++ l) runs rest ∙ sym two.4

@@ -280,7 +280,7 @@ pub data NoPlace (t : Table) (a : Asked) (r : Refusal) : Type 0 where
 abbrev pub run_length : Run → ℕ
 run_length run = run.last - run.first + 1
 
--- no slice has so few or so many sectors
+-- the length is impossible for a slice
 pub record IsWrongSize (b : ℕ) (kind : List ℕ) (run : Run) : Type 0 where
   pub is_slice : is_slice b kind ≡ true
   pub wrong : (run_length run < 2) ⊎ (4294967295 < run_length run)

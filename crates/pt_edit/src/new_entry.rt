@@ -108,7 +108,7 @@ fn find_spot(alloc: Global, table: &Table, asked: &Asked) -> Result<NewEntry, Re
     Ok(NewEntry { number, kind, run })
 }
 
-// Whether no slice has so few or so many sectors.
+// Whether the length is impossible for a slice.
 fn is_wrong_size<const B: usize>(spot: &NewEntry) -> bool
     requires { spot.now.run.last < 2 ^ 64 }
     ensures { IsTrue result ↔ IsWrongSize B spot.now.kind.0 spot.now.run }

@@ -17,7 +17,8 @@ use Rattle.pt_cases.specs.Cases.{labels_and_backup, primary_and_labels, within_m
 use Rattle.pt_cases.specs.Kept.{IsKept, IsOpening, Needed}
 use Rattle.pt_cases.specs.Writes.{array_phase, backup_phase, closing, one_write}
 use Rattle.pt_planner.specs.Phases.{Reaches}
-use Rattle.pt_planner.specs.PlanReads.{PlanReads, IsOfItsCopies, head, label}
+use Rattle.pt_cases.specs.declared.primary.Primary.TheVariants.{Kept}
+use Rattle.pt_planner.specs.PlanReads.{PlanReads, PlanReadsBy, IsOfItsCopies, head, label}
 use Rattle.pt_planner.specs.inner.Kept.{IsOver, IsTried, RewritesBackupFirst, RewritesPrimaryFirst}
 use Rattle.pt_planner.proofs.Reached.{backup_first_reached, primary_first_reached, protects_reached}
 
@@ -171,12 +172,13 @@ module _ (b : ℕ) (d : Sectors) (p : Layout) (phases new : List Writes) (many :
 
 -- so are the sectors that are read where one of these fails: sector 1, the last one, and those of the phases
 pub failed_in : (b n : ℕ) (d : Sectors) (p : Layout) (phases : List Writes) (s : ℕ) → HasRoom b n → length d ≡ n → 4 ≤ length phases
-    → IsPlan b d p phases → (s ≡ 1) ⊎ ((s + 1 ≡ n) ⊎ IsTried phases s) → PlanReads b n p s ⊎ IsOfItsCopies b n p s
+    → IsPlan b d p phases → (s ≡ 1) ⊎ ((s + 1 ≡ n) ⊎ IsTried phases s) → PlanReadsBy Kept b n p s
 failed_in b n d p phases s room count many plan (inl one) =
     let has = has_table b d p phases phases many plan in
-    inr (has.0, has.1, (omega (arith, one), inl (omega (arith, one))))
+    inr (inl (has.0, has.1, (omega (arith, one), inl (omega (arith, one)))))
 failed_in b n d p phases s room count many plan (inr (inl last)) =
     let has = has_table b d p phases phases many plan in
-    inr (has.0, has.1, (omega (arith, last, room), inr (omega (arith, last), omega (arith, last))))
+    inr (inl (has.0, has.1, (omega (arith, last, room), inr (omega (arith, last), omega (arith, last)))))
 failed_in b n d p phases s room count many plan (inr (inr tried)) =
-    subst (λ (m : ℕ). PlanReads b m p s ⊎ IsOfItsCopies b m p s) count (tried_in b d p phases phases many s tried plan)
+    ⊎_elim (λ ever. inl ever) (λ copy. inr (inl copy))
+    (subst (λ (m : ℕ). PlanReads b m p s ⊎ IsOfItsCopies b m p s) count (tried_in b d p phases phases many s tried plan))

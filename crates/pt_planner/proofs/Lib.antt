@@ -1,3 +1,4 @@
+pub mod ArraySectors
 pub mod Assembling
 mod Beginning
 mod Begun
@@ -17,6 +18,7 @@ pub mod Lists
 mod Made
 mod Making
 pub mod MbrTurn
+pub mod NewMbr
 mod Opening
 mod Over
 mod Parts

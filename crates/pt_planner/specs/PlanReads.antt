@@ -1,5 +1,5 @@
 -- What the planner knows of a disk, and what it reads.
-use Rattle.std.specs.Prelude.{◌≡◌, ◌⊎◌, ℕ, List, length, Option, ◌↔◌, Some, None, IsTrue}
+use Rattle.std.specs.Prelude.{◌≡◌, ◌⊎◌, ◌-◌, ℕ, List, length, Option, ◌↔◌, Some, None, IsTrue}
 use Rattle.pt_sector.specs.Device.{IsReadIn}
 use Rattle.pt_sector.specs.Sectors.{Sectors}
 use Rattle.pt_mbr.specs.Chain.{StandsAt}
@@ -42,10 +42,15 @@ pub data PlanReads (b n : ℕ) (wanted : Layout) (s : ℕ) : Type 0 where
 abbrev pub IsOfItsCopies : ℕ → ℕ → Layout → ℕ → Type 0
 IsOfItsCopies b n wanted s = (t : Table) × (wanted.body ≡ Gpt t) × IsOfCopy b n s
 
+-- for a layout that is an MBR, the sectors in which the headers of a GPT may have been
+abbrev pub IsOfOldHeaders : ℕ → Layout → ℕ → Type 0
+IsOfOldHeaders n wanted s =
+    (records : List (Option Record)) × (chain : List Ebr) × (wanted.body ≡ Mbr records chain) × ((s ≡ 1) ⊎ (s ≡ n - 1))
+
 -- a plan that keeps the primary copy: these, too
 abbrev pub PlanReadsBy : Choice → ℕ → ℕ → Layout → ℕ → Type 0
 PlanReadsBy choice.Zeroed b n wanted s = PlanReads b n wanted s
-PlanReadsBy choice.Kept b n wanted s = PlanReads b n wanted s ⊎ IsOfItsCopies b n wanted s
+PlanReadsBy choice.Kept b n wanted s = PlanReads b n wanted s ⊎ (IsOfItsCopies b n wanted s ⊎ IsOfOldHeaders n wanted s)
 
 -- and where what the disk denotes isn't known: those that decide a verdict of it, too
 abbrev pub MakeReadsBy : Choice → ℕ → Sectors → Layout → ℕ → Type 0

@@ -84,7 +84,7 @@ fn leave_out<const B: usize, D: Disk<B>>(
 }
 
 /// Puts a phase in its place.
-fn put_phase<const B: usize>(
+pub(crate) fn put_phase<const B: usize>(
     phases: &mut Vec<Vec<Write<B>>>,
     at: usize,
     phase: Vec<Write<B>>,

@@ -5,6 +5,7 @@ pub mod chains;
 pub mod copies;
 mod kept;
 mod known;
+mod new_mbr;
 pub mod phases;
 pub mod places;
 mod planner;

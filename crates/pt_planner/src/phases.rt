@@ -14,5 +14,6 @@ mod within;
 pub use copies::both_copies;
 pub use label::one_label;
 pub use order::Order;
+pub(crate) use reserved::{Reserved, touches, touches_owned};
 pub use setting::Setting;
 pub use within::within_mbr;

@@ -8,12 +8,15 @@ ghost use Rattle.pt_apply.specs.Plans.{phases_of, InRange};
 ghost use Rattle.pt_layout.specs.Sound.{Sound};
 ghost use Rattle.pt_cases.specs.Cases.{IsPlan};
 ghost use Rattle.pt_cases.specs.Kept.{IsPlanBy};
+ghost use Rattle.pt_cases.specs.NewMbr.{UnplannedBy};
 ghost use Rattle.pt_cases.specs.Unplanned.{fault_in, Unplanned};
+ghost use Rattle.pt_cases.specs.declared.primary.Primary.TheVariants.{Kept};
 ghost use Rattle.pt_planner.specs.PlanReads.{IsKnown, FailedInPlan, PlanReads, PlanReadsBy, MakeReads, MakeReadsBy};
 ghost use Rattle.pt_planner.specs.inner.PlanReads.{IsUnsoundBy};
 
 use crate::kept::keep_primary;
 use crate::known::{Known, read_known};
+use crate::new_mbr::{is_first_mbr, new_mbr};
 use crate::plans::{places_of, to_gpt, to_mbr};
 use crate::state::{Change, change_to, is_done};
 use pt_apply::Plan;
@@ -72,6 +75,30 @@ pub fn plan_from<const B: usize, D: Disk<B>>(
     }
 }
 
+/// The same, with the primary copy kept; of an MBR where the disk denotes none, its plan.
+fn plan_kept<const B: usize, D: Disk<B>>(
+    alloc: Global,
+    disk: &mut D,
+    known: &Known,
+    wanted: &Layout,
+) -> Result<Plan<B>, PlanError>
+    requires size { IsSectorSize B }
+    requires known { D.tells → IsKnown B (D.told disk.old).seen known.now }
+    ensures same { OnlyReads D.Disk disk.old disk.new }
+    ensures blames { Blames fault_in result (D.faults disk.old) (D.faults disk.new) }
+    ensures place { D.tells → IfErr result (FailedInPlan (PlanReadsBy Kept B (D.count disk.old) wanted.now)) }
+    ensures in_range { IfOk result (InRange (D.count disk.old)) }
+    ensures some { IfOk result (λ plan. All (λ p. 0 < length p.items) plan.phases.items) }
+    ensures plan { D.tells → IfOk result (λ plan. IsPlanBy Kept B (D.told disk.old).seen wanted.now (phases_of plan)) }
+    ensures err { D.tells → IfErr result (UnplannedBy Kept B (D.told disk.old).seen wanted.now) }
+{
+    if is_first_mbr(disk.sectors(), &known.old, wanted) {
+        return new_mbr(alloc, disk, known, wanted);
+    }
+    let plan = plan_from(alloc, disk, known, wanted)?;
+    keep_primary(alloc, disk, known, plan)
+}
+
 /// The plan for a layout, by what is known of the disk and by what becomes of its primary copy.
 ///
 /// See [`make_plan_by`].
@@ -90,12 +117,11 @@ pub fn plan_by<const B: usize, D: Disk<B>>(
     ensures in_range { IfOk result (InRange (D.count disk.old)) }
     ensures some { IfOk result (λ plan. All (λ p. 0 < length p.items) plan.phases.items) }
     ensures plan { D.tells → IfOk result (λ plan. IsPlanBy primary B (D.told disk.old).seen wanted.now (phases_of plan)) }
-    ensures err { D.tells → IfErr result (Unplanned B (D.told disk.old).seen wanted.now) }
+    ensures err { D.tells → IfErr result (UnplannedBy primary B (D.told disk.old).seen wanted.now) }
 {
-    let plan = plan_from(alloc, disk, known, wanted)?;
     match primary {
-        Primary::Zeroed => Ok(plan),
-        Primary::Kept => keep_primary(alloc, disk, known, plan),
+        Primary::Zeroed => plan_from(alloc, disk, known, wanted),
+        Primary::Kept => plan_kept(alloc, disk, known, wanted),
     }
 }
 
@@ -122,7 +148,10 @@ pub fn make_plan<const B: usize, D: Disk<B>>(
     ensures plan { D.tells → IfOk result (λ plan. IsPlan B (D.told disk.old).seen wanted.now (phases_of plan)) }
     ensures err { D.tells → IfErr result (Unplanned B (D.told disk.old).seen wanted.now) }
 {
-    make_plan_by(alloc, disk, wanted, Primary::Zeroed)
+    let room = Room::for_cache(alloc)?;
+    let mut cache = ReadCache::new(disk, room);
+    let (known, _reason) = read_known(alloc, &mut cache)?;
+    plan_from(alloc, &mut cache, &known, wanted)
 }
 
 /// The same, by what becomes of the primary copy.
@@ -130,7 +159,12 @@ pub fn make_plan<const B: usize, D: Disk<B>>(
 /// With the primary copy kept, sector 1 isn't zeroed: it gets the header of the backup copy that is valid then, with the numbers
 /// of the two headers exchanged, so that it leads to the backup's array; zeros stay where the disk denotes nothing. It isn't
 /// written where the primary array needn't be, and a phase whose sectors hold what it would write is left out. What is refused,
-/// and which error comes first, is the same.
+/// and which error comes first, is the same, but for an MBR where the disk denotes none.
+///
+/// That gets the plan which it has on the disk with an emptied sector 0, and then zeros in sector 1 and in the last sector where
+/// these may hold headers of a GPT that was there, no partition owns them, and they are no tables of the layout. It is refused
+/// where that plan writes a sector that a partition of the old layout owns, and where it writes before sector 0 one that recovery
+/// of the disk reads.
 pub fn make_plan_by<const B: usize, D: Disk<B>>(
     alloc: Global,
     disk: &mut D,
@@ -144,7 +178,7 @@ pub fn make_plan_by<const B: usize, D: Disk<B>>(
     ensures in_range { IfOk result (InRange (D.count disk.old)) }
     ensures some { IfOk result (λ plan. All (λ p. 0 < length p.items) plan.phases.items) }
     ensures plan { D.tells → IfOk result (λ plan. IsPlanBy primary B (D.told disk.old).seen wanted.now (phases_of plan)) }
-    ensures err { D.tells → IfErr result (Unplanned B (D.told disk.old).seen wanted.now) }
+    ensures err { D.tells → IfErr result (UnplannedBy primary B (D.told disk.old).seen wanted.now) }
 {
     let room = Room::for_cache(alloc)?;
     let mut cache = ReadCache::new(disk, room);

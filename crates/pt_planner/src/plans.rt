@@ -97,7 +97,7 @@ pub(crate) fn to_mbr<const B: usize, D: Disk<B>>(
 }
 
 /// Sector 0.
-fn read_head<const B: usize, D: Disk<B>>(disk: &mut D) -> Result<Sector<B>, FailedRead>
+pub(crate) fn read_head<const B: usize, D: Disk<B>>(disk: &mut D) -> Result<Sector<B>, FailedRead>
     requires { 0 < D.count disk.old }
     ensures same { OnlyReads D.Disk disk.old disk.new }
     ensures blames { Blames read_of result (D.faults disk.old) (D.faults disk.new) }

@@ -108,10 +108,14 @@ label_by k was label run =
     if was then Ok label
     else if no_slice_has (run_length run) then Err (at k key.Size) else Ok (Some (empty_of (run_length run)))
 
-unfoldable pub label_for : ℕ → ℕ → Option Entry → Option Label → Guid → Run → Option (Option Label) → Result (Option Label) TextFault
-label_for b k was label kind run (Some None) = Ok None
-label_for b k was label kind run (Some (Some l)) = if is_slice b kind.0 then Ok (Some l) else Err (at k key.Bsd)
-label_for b k was label kind run None = if is_slice b kind.0 then label_by k (was_there b was run) label run else Ok None
+-- of a slice or of another partition, where a slice was or wasn't
+unfoldable pub label_as : ℕ → Bool → Bool → Option Label → Run → Option (Option Label) → Result (Option Label) TextFault
+label_as k slice was label run (Some None) = Ok None
+label_as k slice was label run (Some (Some l)) = if slice then Ok (Some l) else Err (at k key.Bsd)
+label_as k slice was label run None = if slice then label_by k was label run else Ok None
+
+abbrev pub label_for : ℕ → ℕ → Option Entry → Option Label → Guid → Run → Option (Option Label) → Result (Option Label) TextFault
+label_for b k was label kind run given = label_as k (is_slice b kind.0) (was_there b was run) label run given
 
 -- ## The entry.
 

@@ -1,5 +1,5 @@
 -- The layout that a draft makes of a disk.
-use Rattle.std.specs.Prelude.{◌≡◌, ℕ, List, [], Option, Some, None, Result, Ok, Err, not, nat_eq}
+use Rattle.std.specs.Prelude.{◌≡◌, ℕ, List, [], Option, Some, None, Result, Ok, Err, not, nat_eq, replicate}
 use Rattle.std.specs.Option.{unwrap_or}
 use Rattle.pt_guid.specs.declared.guid.Guid.{Guid}
 use Rattle.pt_members.specs.declared.layout.Body.{Body}
@@ -12,6 +12,7 @@ use Rattle.pt_drafts.specs.declared.draft.TableKind.TheVariants.{Gpt, Mbr}
 use Rattle.pt_drafts.specs.declared.fault.Key.TheVariants as key
 use Rattle.pt_drafts.specs.declared.fault.TextFault.{TextFault}
 use Rattle.pt_set.specs.Faults.{◌>>=◌, of, fails_if}
+use Rattle.pt_set.specs.Mbrs.{IsMbrOf}
 use Rattle.pt_set.specs.Tables.{IsGptOf}
 
 -- a draft says nothing else of the sectors of a disk than is so
@@ -39,10 +40,19 @@ abbrev pub IsGptOver : ℕ → ℕ → Option Layout → List Guid → Draft →
 IsGptOver b n None fresh d r = IsGptOf b n None [] fresh d r
 IsGptOver b n (Some o) fresh d r = IsGptAfter b n o.body o.labels fresh d r
 
--- a table of that kind: only GPTs are made
+-- an MBR on a disk with this body and these labels: of a GPT nothing is kept
+abbrev pub IsMbrAfter : ℕ → ℕ → Body → List Labelled → Draft → Result Layout TextFault → Type 0
+IsMbrAfter b n (body.Mbr records chain) labels d r = IsMbrOf b n records chain labels d r
+IsMbrAfter b n (body.Gpt t) labels d r = IsMbrOf b n (replicate 4 None) [] [] d r
+
+abbrev pub IsMbrOver : ℕ → ℕ → Option Layout → Draft → Result Layout TextFault → Type 0
+IsMbrOver b n None d r = IsMbrOf b n (replicate 4 None) [] [] d r
+IsMbrOver b n (Some o) d r = IsMbrAfter b n o.body o.labels d r
+
+-- a table of that kind
 abbrev pub IsOfKind : ℕ → ℕ → Option Layout → List Guid → Draft → TableKind → Result Layout TextFault → Type 0
 IsOfKind b n old fresh d Gpt r = IsGptOver b n old fresh d r
-IsOfKind b n old fresh d Mbr r = r ≡ Err (of key.Label)
+IsOfKind b n old fresh d Mbr r = IsMbrOver b n old d r
 
 abbrev pub IsTableBy : ℕ → ℕ → Option Layout → List Guid → Draft → Result (Unit {0}) TextFault → Result Layout TextFault → Type 0
 IsTableBy b n old fresh d (Err fault) r = r ≡ Err fault

@@ -1,8 +1,12 @@
+pub mod Chains
 pub mod Entries
 pub mod Faults
 pub mod Heads
 pub mod Layouts
+pub mod Mbrs
+pub mod Pasts
 pub mod Places
+pub mod Records
 pub mod Sets
 pub mod Tables
 pub mod inner

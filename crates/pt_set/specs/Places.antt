@@ -61,18 +61,26 @@ abbrev pub IsFound : Area → ℕ → ℕ → End → TextFault → Result Run T
 IsFound a alignment start end fault (Ok run) = Placed a alignment start end run
 IsFound a alignment start end fault (Err e) = (e ≡ fault) × (r : Refusal) × NotPlaced a alignment start end r
 
+-- the area where nothing has to stand before a partition
+abbrev pub without_lead : Area → Area
+without_lead a = record { low = a.low; high = a.high; taken = a.taken; empties = None }
+
 -- from a sector on as far as is free; sector 0 has the disk's own table
-abbrev pub IsFoundFrom : Head → List Run → ℕ → ℕ → Result Run TextFault → Type 0
-IsFoundFrom h runs k zero r = r ≡ Err (at k key.Start)
-IsFoundFrom h runs k (suc n) r = IsFound (area_of h runs) 1 (suc n) Block (at k key.Start) r
+abbrev pub IsFoundFrom : Area → ℕ → ℕ → Result Run TextFault → Type 0
+IsFoundFrom a k zero r = r ≡ Err (at k key.Start)
+IsFoundFrom a k (suc n) r = IsFound (without_lead a) 1 (suc n) Block (at k key.Start) r
 
 abbrev pub ok_or_size : ℕ → Option Run → Result Run TextFault
 ok_or_size k None = Err (at k key.Size)
 ok_or_size k (Some run) = Ok run
 
 -- where partition k of a draft lies: as its text says, or, without a size, from its start on as far as is free, or, without a start, in
--- the largest free block, at a multiple of 1 MiB; the runs are taken
+-- the largest free block, at a multiple of 1 MiB, behind a free sector where the area asks for one
+abbrev pub IsPlaceIn : ℕ → Area → ℕ → Option ℕ → Option Extent → Result Run TextFault → Type 0
+IsPlaceIn b a k (Some start) (Some x) r = r ≡ ok_or_size k (run_by b start x)
+IsPlaceIn b a k (Some start) None r = IsFoundFrom a k start r
+IsPlaceIn b a k None x r = IsFound a (1048576 / b) 0 (end_of b x) (at k key.Size) r
+
+-- that of a partition of a GPT; the runs are taken
 abbrev pub IsPlace : ℕ → Head → List Run → ℕ → Option ℕ → Option Extent → Result Run TextFault → Type 0
-IsPlace b h runs k (Some start) (Some x) r = r ≡ ok_or_size k (run_by b start x)
-IsPlace b h runs k (Some start) None r = IsFoundFrom h runs k start r
-IsPlace b h runs k None x r = IsFound (area_of h runs) (1048576 / b) 0 (end_of b x) (at k key.Size) r
+IsPlace b h runs k start x r = IsPlaceIn b (area_of h runs) k start x r

@@ -1,2 +1,4 @@
+pub mod Areas
 pub mod Made
+pub mod Staged
 pub mod Wanting

@@ -1,24 +1,28 @@
 //! The entries that the partitions of a draft become.
 
-ghost use Rattle.std.specs.Prelude.{◌≡◌, ◌<◌, ◌≤◌, ◌^◌, ◌+◌, IfSome, IsTrue, None, length, slice_index_or};
+ghost use Rattle.std.specs.Prelude.{◌≡◌, ◌<◌, ◌≤◌, ◌^◌, ◌+◌, IfOk, IfSome, IsTrue, None, length, slice_index_or};
 ghost use Rattle.std.specs.Option.{option_map};
 ghost use Rattle.pt_set.specs.Entries.{entry_at as entry_at_spec, entry_of as entry_spec, foreign_key as foreign_spec, gives as gives_spec};
 ghost use Rattle.pt_set.specs.Entries.{is_number as is_number_spec, is_open as is_open_spec};
 ghost use Rattle.pt_set.specs.Entries.{is_unused as is_unused_spec, kind_for as kind_spec};
-ghost use Rattle.pt_set.specs.Entries.{label_by as label_by_spec, label_for as label_spec, lowest as lowest_spec};
-ghost use Rattle.pt_set.specs.Entries.{no_foreign as no_foreign_spec, no_slice_has as no_slice_spec, number_for as number_spec};
-ghost use Rattle.pt_set.specs.Entries.{old_entry as old_entry_spec, run_length as length_spec, unique_for as unique_spec};
-ghost use Rattle.pt_set.specs.Entries.{was_there as was_there_spec};
+ghost use Rattle.pt_set.specs.Entries.{label_as as label_as_spec, label_by as label_by_spec, label_for as label_spec};
+ghost use Rattle.pt_set.specs.Entries.{lowest as lowest_spec, no_foreign as no_foreign_spec, no_slice_has as no_slice_spec};
+ghost use Rattle.pt_set.specs.Entries.{number_for as number_spec};
+ghost use Rattle.pt_set.specs.Entries.{old_entry as old_entry_spec, unique_for as unique_spec};
+ghost use Rattle.pt_set.specs.Entries.{was_there as was_there_spec, with_label as with_label_spec};
 ghost use Rattle.pt_edit.specs.Entries.{is_slice};
 
 use crate::faults::at;
 use crate::head::{Named, next_named};
+use crate::places::length_of;
 use pt_bsd::{Label, empty_label};
 use pt_drafts::{Key, NamedType, PartDraft, TextFault};
+use pt_edit::labels::add_label;
 use pt_edit::space::Run;
 use pt_gpt::{Entries, Entry, Table};
 use pt_guid::{Guid, type_of_code};
-use pt_members::is_slice_type;
+use pt_members::{Labels, is_slice_type};
+use std::alloc::{AllocError, Global};
 
 /// The type of a partition whose text has none: a Linux filesystem.
 const DEFAULT_CODE: u16 = 0x8300;
@@ -56,15 +60,23 @@ fn foreign_key(part: &PartDraft) -> Option<Key>
     None
 }
 
+/// That there is no such key.
+pub(crate) fn refuse(k: usize, key: Option<Key>) -> Result<(), TextFault>
+    requires few { k < 2 ^ 63 }
+    ensures { result ≡ no_foreign_spec k key }
+{
+    match key {
+        Some(key) => Err(at(k, key)),
+        None => Ok(()),
+    }
+}
+
 /// That it gives none of these.
 pub(crate) fn no_foreign(k: usize, part: &PartDraft) -> Result<(), TextFault>
     requires few { k < 2 ^ 63 }
     ensures { result ≡ no_foreign_spec k (foreign_spec part.now) }
 {
-    match foreign_key(part) {
-        Some(key) => Err(at(k, key)),
-        None => Ok(()),
-    }
+    refuse(k, foreign_key(part))
 }
 
 fn is_number(number: u64, given: Option<u64>) -> bool
@@ -76,9 +88,9 @@ fn is_number(number: u64, given: Option<u64>) -> bool
     }
 }
 
-// Whether a partition of the text is given this number.
+/// Whether a partition of the text is given this number.
 #[tactic(auto, using(crate::proofs::Numbers::gives_here, crate::proofs::Numbers::gives_next, crate::proofs::Numbers::gives_end))]
-fn gives(parts: &[PartDraft], number: u64) -> bool
+pub(crate) fn gives(parts: &[PartDraft], number: u64) -> bool
     ensures { result ≡ gives_spec parts.now number }
 {
     for k in 0..parts.len() {
@@ -219,15 +231,47 @@ fn label_by(k: usize, was: bool, label: Option<Label>, run: Run) -> Result<Optio
     if was {
         return Ok(label);
     }
-    let length = run.last.saturating_sub(run.first) + 1;
+    let length = length_of(run);
     if length < 2 || length > u128::from(LONGEST_SLICE) {
         return Err(at(k, Key::Size));
     }
     Ok(Some(empty_label(length as u32)))
 }
 
-/// The label of a partition.
-#[tactic(auto, unfolding(crate::specs::Entries::label_for))]
+/// The label of a partition which is a slice or isn't, where a slice with this label was in the same sectors or wasn't.
+#[tactic(auto, unfolding(crate::specs::Entries::label_as))]
+pub(crate) fn label_as(
+    k: usize,
+    is_slice: bool,
+    was: bool,
+    label: Option<Label>,
+    run: Run,
+    given: Option<Option<Label>>,
+) -> Result<Option<Label>, TextFault>
+    requires few { k < 2 ^ 63 }
+    requires last { run.last < 2 ^ 64 }
+    ensures { result ≡ label_as_spec k is_slice was label run given }
+{
+    match given {
+        Some(None) => Ok(None),
+        Some(Some(given)) => {
+            if is_slice {
+                Ok(Some(given))
+            } else {
+                Err(at(k, Key::Bsd))
+            }
+        }
+        None => {
+            if is_slice {
+                label_by(k, was, label, run)
+            } else {
+                Ok(None)
+            }
+        }
+    }
+}
+
+/// The label of a partition of a GPT.
 pub(crate) fn label_for<const B: usize>(
     k: usize,
     was: Option<Entry>,
@@ -240,24 +284,14 @@ pub(crate) fn label_for<const B: usize>(
     requires last { run.last < 2 ^ 64 }
     ensures { result ≡ label_spec B k was label kind.now run given }
 {
-    let is_slice = is_slice_of::<B>(kind);
-    match given {
-        Some(None) => Ok(None),
-        Some(Some(given)) => {
-            if is_slice {
-                Ok(Some(given))
-            } else {
-                Err(at(k, Key::Bsd))
-            }
-        }
-        None => {
-            if is_slice {
-                label_by(k, was_there::<B>(was, run), label, run)
-            } else {
-                Ok(None)
-            }
-        }
-    }
+    label_as(
+        k,
+        is_slice_of::<B>(kind),
+        was_there::<B>(was, run),
+        label,
+        run,
+        given,
+    )
 }
 
 /// The entry of a partition.
@@ -273,5 +307,20 @@ pub(crate) fn entry_of(part: &PartDraft, kind: &Guid, unique: &Guid, run: Run) -
         last: run.last as u64,
         attributes: part.attributes.unwrap_or(0),
         name: part.name.unwrap_or([0; 36]),
+    }
+}
+
+/// The labels with that of a number, where it has one.
+pub(crate) fn put_label(
+    alloc: Global,
+    labels: Labels,
+    number: u64,
+    label: Option<Label>,
+) -> Result<Labels, AllocError>
+    ensures { IfOk result (λ made. made ≡ with_label_spec number label labels) }
+{
+    match label {
+        Some(label) => add_label(alloc, labels, number, &label),
+        None => Ok(labels),
     }
 }

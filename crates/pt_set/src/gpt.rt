@@ -1,22 +1,21 @@
 //! The GPT that a draft makes of a disk.
 
-ghost use Rattle.std.specs.Prelude.{◌≡◌, ◌<◌, ◌≤◌, ◌^◌, IfOk, IfErr, IfSome, Ok, Err, length};
+ghost use Rattle.std.specs.Prelude.{◌≡◌, ◌<◌, ◌≤◌, ◌^◌, IfOk, IfErr, Ok, Err, length};
 ghost use Rattle.std.specs.Option.{option_map};
 ghost use Rattle.pt_sector.specs.Sectors.{IsSectorSize};
-ghost use Rattle.pt_set.specs.Entries.{old_entry as old_entry_spec, with_label as with_label_spec, with_part};
+ghost use Rattle.pt_set.specs.Entries.{with_part};
 ghost use Rattle.pt_set.specs.Tables.{AreMade, IsGptOf, IsMade, initial, known_of as known_spec, layout_of as layout_spec};
 ghost use Rattle.pt_set.specs.Tables.{made_at as made_spec, ready_for as ready_spec};
 ghost use Rattle.pt_set.specs.inner.Made.{Tells, frame_in, state_of};
 
 use crate::entries::{
-    Known, entry_of, kind_for, label_for, no_foreign, number_for, old_entry, unique_for,
+    Known, entry_of, kind_for, label_for, no_foreign, number_for, old_entry, put_label, unique_for,
 };
 use crate::faults::at;
 use crate::head::{Head, Named, head_for};
 use crate::places::{place_for, stated};
 use pt_bsd::Label;
 use pt_drafts::{Draft, DraftError, Key, PartDraft, TextFault};
-use pt_edit::labels::add_label;
 use pt_edit::space::Run;
 use pt_gpt::{Entries, Entry, Table};
 use pt_guid::Guid;
@@ -90,21 +89,6 @@ fn ready_for<const B: usize>(
     let label = find_label(basis.labels, known.number);
     let label = label_for::<B>(k, was, label, &known.kind, run, part.bsd)?;
     Ok(Ready { unique, label })
-}
-
-// The labels with that of a number, where it has one.
-fn put_label(
-    alloc: Global,
-    labels: Labels,
-    number: u64,
-    label: Option<Label>,
-) -> Result<Labels, AllocError>
-    ensures { IfOk result (λ made. made ≡ with_label_spec number label labels) }
-{
-    match label {
-        Some(label) => add_label(alloc, labels, number, &label),
-        None => Ok(labels),
-    }
 }
 
 // Puts an entry among the others.

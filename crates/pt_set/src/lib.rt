@@ -3,13 +3,17 @@
 //! docs/table.md has what is taken for each name that a text leaves out.
 #![tactic(auto)]
 
+mod chains;
 mod disk;
 mod entries;
 mod error;
 mod faults;
 mod gpt;
 mod head;
+mod mbr;
+mod past;
 mod places;
+mod records;
 mod table;
 
 pub use disk::{commit_draft, plan_draft};

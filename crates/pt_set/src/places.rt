@@ -2,8 +2,12 @@
 
 ghost use Rattle.std.specs.Prelude.{◌≡◌, ◌<◌, ◌^◌, ◌++◌, IfOk, IfErr, IfSome, OnOk, Ok, Err, length};
 ghost use Rattle.pt_sector.specs.Sectors.{IsSectorSize};
-ghost use Rattle.pt_set.specs.Places.{IsFound, IsPlace, area_of, as_list, end_by as end_spec, end_of as end_of_spec};
+ghost use Rattle.pt_edit.specs.Space.{empties_of};
+ghost use Rattle.pt_set.specs.Entries.{run_length};
+ghost use Rattle.pt_set.specs.Places.{IsFound, IsFoundFrom, IsPlace, IsPlaceIn, as_list, end_by as end_spec};
+ghost use Rattle.pt_set.specs.Places.{end_of as end_of_spec};
 ghost use Rattle.pt_set.specs.Places.{last_of as last_spec, run_by as run_by_spec, stated as stated_spec, stated_by as stated_by_spec};
+ghost use Rattle.pt_set.specs.inner.Areas.{area_in, empties_by};
 ghost use Rattle.pt_set.specs.inner.Made.{Tells};
 
 use crate::faults::at;
@@ -12,6 +16,16 @@ use pt_drafts::{DraftError, Extent, Key, PartDraft, TextFault};
 use pt_edit::End;
 use pt_edit::space::{Lead, Run, Space, place};
 use std::alloc::{AllocError, Global};
+
+/// Where partitions may be placed.
+#[derive(Clone, Copy)]
+pub(crate) struct Bounds {
+    /// The first and the last sector.
+    pub(crate) low: u128,
+    pub(crate) high: u128,
+    /// Whether the sector before a partition is for a record of its own, and so has to be free.
+    pub(crate) leads: bool,
+}
 
 /// Where a partition starts that the text gives no start, in bytes: at a multiple of 1 MiB.
 const ALIGNMENT: usize = 1 << 20;
@@ -52,8 +66,8 @@ fn run_by<const B: usize>(first: u64, extent: Extent) -> Option<Run>
     })
 }
 
-// A partition of which the text says both ends.
-fn stated_by<const B: usize>(part: &PartDraft) -> Option<Run>
+/// A partition of which the text says both ends.
+pub(crate) fn stated_by<const B: usize>(part: &PartDraft) -> Option<Run>
     requires size { IsSectorSize B }
     ensures value { result ≡ stated_by_spec B part.now.start part.now.extent }
     ensures last { IfSome result (λ run. run.last < 2 ^ 64) }
@@ -65,8 +79,11 @@ fn stated_by<const B: usize>(part: &PartDraft) -> Option<Run>
     }
 }
 
-// Adds the sectors of such a partition.
-fn push_stated<const B: usize>(runs: &mut Vec<Run>, part: &PartDraft) -> Result<(), AllocError>
+/// Adds the sectors of such a partition.
+pub(crate) fn push_stated<const B: usize>(
+    runs: &mut Vec<Run>,
+    part: &PartDraft,
+) -> Result<(), AllocError>
     requires size { IsSectorSize B }
     ensures { OnOk result (runs.new.items ≡ runs.old.items ++ as_list (stated_by_spec B part.now.start part.now.extent)) }
 {
@@ -91,6 +108,14 @@ pub(crate) fn stated<const B: usize>(
     Ok(runs)
 }
 
+/// How many sectors there are.
+pub(crate) fn length_of(run: Run) -> u128
+    requires { run.last < 2 ^ 64 }
+    ensures { result ≡ run_length run }
+{
+    run.last.saturating_sub(run.first) + 1
+}
+
 // As the word `n` is asked for an end.
 fn end_of<const B: usize>(extent: Option<Extent>) -> End
     requires size { IsSectorSize B }
@@ -104,26 +129,38 @@ fn end_of<const B: usize>(extent: Option<Extent>) -> End
     }
 }
 
+// What stands before a partition: nothing, or its record in a free sector.
+fn lead_for(alloc: Global, leads: bool) -> Lead
+    ensures { empties_of result ≡ empties_by leads }
+{
+    if leads {
+        Lead::Record(Vec::new(alloc))
+    } else {
+        Lead::None
+    }
+}
+
 // The place as the word `n` finds it.
 fn found(
     alloc: Global,
-    head: &Head,
+    bounds: Bounds,
     runs: &[Run],
     alignment: u64,
     start: u64,
     end: End,
     fault: TextFault,
 ) -> Result<Run, DraftError>
-    ensures ok { IfOk result (λ run. IsFound (area_of head.now runs.now) alignment start end fault (Ok run)) }
+    requires high { bounds.high < 2 ^ 64 }
+    ensures ok { IfOk result (λ run. IsFound (area_in bounds runs.now) alignment start end fault (Ok run)) }
     ensures last { IfOk result (λ run. run.last < 2 ^ 64) }
     ensures first { IfOk result (λ run. run.first < 2 ^ 64) }
-    ensures err { IfErr result (Tells (λ e. IsFound (area_of head.now runs.now) alignment start end fault (Err e))) }
+    ensures err { IfErr result (Tells (λ e. IsFound (area_in bounds runs.now) alignment start end fault (Err e))) }
 {
     let space = Space {
-        low: u128::from(head.first),
-        high: u128::from(head.last),
+        low: bounds.low,
+        high: bounds.high,
         taken: Vec::from_slice(alloc, runs)?,
-        lead: Lead::None,
+        lead: lead_for(alloc, bounds.leads),
     };
     match place(space, alignment, start, end) {
         Ok(run) => Ok(run),
@@ -131,7 +168,61 @@ fn found(
     }
 }
 
+// From a sector on as far as is free.
+fn found_from(
+    alloc: Global,
+    bounds: Bounds,
+    runs: &[Run],
+    k: usize,
+    start: u64,
+) -> Result<Run, DraftError>
+    requires few { k < 2 ^ 63 }
+    requires high { bounds.high < 2 ^ 64 }
+    ensures ok { IfOk result (λ run. IsFoundFrom (area_in bounds runs.now) k start (Ok run)) }
+    ensures last { IfOk result (λ run. run.last < 2 ^ 64) }
+    ensures first { IfOk result (λ run. run.first < 2 ^ 64) }
+    ensures err { IfErr result (Tells (λ e. IsFoundFrom (area_in bounds runs.now) k start (Err e))) }
+{
+    let fault = at(k, Key::Start);
+    if start == 0 {
+        return Err(DraftError::Fault(fault));
+    }
+    let there = Bounds {
+        low: bounds.low,
+        high: bounds.high,
+        leads: false,
+    };
+    found(alloc, there, runs, 1, start, End::Block, fault)
+}
+
 /// Where a partition of a draft lies, which has this place in the list.
+pub(crate) fn place_in<const B: usize>(
+    alloc: Global,
+    bounds: Bounds,
+    runs: &[Run],
+    k: usize,
+    part: &PartDraft,
+) -> Result<Run, DraftError>
+    requires size { IsSectorSize B }
+    requires few { k < 2 ^ 63 }
+    requires high { bounds.high < 2 ^ 64 }
+    ensures ok { IfOk result (λ run. IsPlaceIn B (area_in bounds runs.now) k part.now.start part.now.extent (Ok run)) }
+    ensures last { IfOk result (λ run. run.last < 2 ^ 64) }
+    ensures first { IfOk result (λ run. run.first < 2 ^ 64) }
+    ensures err { IfErr result (Tells (λ e. IsPlaceIn B (area_in bounds runs.now) k part.now.start part.now.extent (Err e))) }
+{
+    match (part.start, part.extent) {
+        (Some(_), Some(_)) => Ok(stated_by::<B>(part).ok_or(at(k, Key::Size))?),
+        (Some(start), None) => found_from(alloc, bounds, runs, k, start),
+        (None, extent) => {
+            let alignment = (ALIGNMENT / B) as u64;
+            let end = end_of::<B>(extent);
+            found(alloc, bounds, runs, alignment, 0, end, at(k, Key::Size))
+        }
+    }
+}
+
+/// The same of a GPT.
 pub(crate) fn place_for<const B: usize>(
     alloc: Global,
     head: &Head,
@@ -146,21 +237,10 @@ pub(crate) fn place_for<const B: usize>(
     ensures first { IfOk result (λ run. run.first < 2 ^ 64) }
     ensures err { IfErr result (Tells (λ e. IsPlace B head.now runs.now k part.now.start part.now.extent (Err e))) }
 {
-    match (part.start, part.extent) {
-        (Some(_), Some(_)) => Ok(stated_by::<B>(part).ok_or(at(k, Key::Size))?),
-        (Some(0), None) => Err(DraftError::Fault(at(k, Key::Start))),
-        (Some(start), None) => { found(alloc, head, runs, 1, start, End::Block, at(k, Key::Start)) }
-        (None, extent) => {
-            let alignment = (ALIGNMENT / B) as u64;
-            found(
-                alloc,
-                head,
-                runs,
-                alignment,
-                0,
-                end_of::<B>(extent),
-                at(k, Key::Size),
-            )
-        }
-    }
+    let bounds = Bounds {
+        low: u128::from(head.first),
+        high: u128::from(head.last),
+        leads: false,
+    };
+    place_in::<B>(alloc, bounds, runs, k, part)
 }

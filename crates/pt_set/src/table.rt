@@ -3,11 +3,12 @@
 ghost use Rattle.std.specs.Prelude.{◌≡◌, IfOk, IfErr, Ok, Err};
 ghost use Rattle.std.specs.Option.{option_map};
 ghost use Rattle.pt_sector.specs.Sectors.{IsSectorSize};
-ghost use Rattle.pt_set.specs.Layouts.{IsGptOver, IsTableOf, fits_disk as fits_spec, kind_for as kind_spec};
+ghost use Rattle.pt_set.specs.Layouts.{IsGptOver, IsMbrOver, IsTableOf, fits_disk as fits_spec, kind_for as kind_spec};
 ghost use Rattle.pt_set.specs.inner.Made.{Tells};
 
 use crate::faults::of;
 use crate::gpt::gpt_for;
+use crate::mbr::mbr_for;
 use pt_drafts::{Draft, DraftError, Key, TableKind, TextFault};
 use pt_guid::Guid;
 use pt_members::{Body, Labels, Layout};
@@ -65,10 +66,31 @@ fn gpt_over<const B: usize>(
     gpt_for::<B>(alloc, draft, sectors, None, &none, fresh)
 }
 
+// An MBR on a disk that denotes this, or nothing.
+fn mbr_over<const B: usize>(
+    alloc: Global,
+    draft: &Draft,
+    sectors: u64,
+    old: Option<&Layout>,
+) -> Result<Layout, DraftError>
+    requires size { IsSectorSize B }
+    ensures ok { IfOk result (λ o. IsMbrOver B sectors (option_map (λ o. o.now) old.entry) draft.now (Ok o)) }
+    ensures err { IfErr result (Tells (λ e. IsMbrOver B sectors (option_map (λ o. o.now) old.entry) draft.now (Err e))) }
+{
+    if let Some(layout) = old {
+        if let Body::Mbr { records, chain } = &layout.body {
+            let chain = chain.as_slice();
+            return mbr_for::<B>(alloc, draft, sectors, records, chain, &layout.labels);
+        }
+    }
+    let none = Labels::new(Vec::new(alloc));
+    mbr_for::<B>(alloc, draft, sectors, &[None; 4], &[], &none)
+}
+
 /// The layout that a draft makes of a disk with this number of sectors, on which `old` is, if anything.
 ///
 /// docs/table.md has what is taken for each name that the text leaves out. New GUIDs are the next of `fresh`. The error is the first fault
-/// of the draft, or lack of memory. Only GPTs are made: of an MBR the fault is at `label`.
+/// of the draft, or lack of memory.
 pub fn table_for<const B: usize>(
     alloc: Global,
     draft: &Draft,
@@ -83,6 +105,6 @@ pub fn table_for<const B: usize>(
     fits_disk::<B>(draft, sectors)?;
     match kind_for(draft, old) {
         TableKind::Gpt => gpt_over::<B>(alloc, draft, sectors, old, fresh),
-        TableKind::Mbr => Err(DraftError::Fault(of(Key::Label))),
+        TableKind::Mbr => mbr_over::<B>(alloc, draft, sectors, old),
     }
 }

@@ -71,8 +71,8 @@ fn own(alloc: Global, attributes: u64) -> Result<String, AllocError>
     Ok(text)
 }
 
-// The attributes in sfdisk's words.
-fn words(alloc: Global, attributes: u64) -> Result<String, AllocError>
+/// The attributes in the words of UEFI's three bits and of the type's own, as sfdisk has them. Bits 3 to 47 have no words.
+pub fn attribute_words(alloc: Global, attributes: u64) -> Result<String, AllocError>
     ensures { IfOk result (λ s. string_bytes s ≡ attributes_text attributes) }
 {
     let mut text = named(alloc, attributes)?;
@@ -96,7 +96,7 @@ pub(crate) fn put_attributes(
         return Ok(());
     }
     object.put_number(alloc, "attributes", attributes)?;
-    let text = words(alloc, attributes)?;
+    let text = attribute_words(alloc, attributes)?;
     if text.is_empty() {
         return Ok(());
     }

@@ -7,10 +7,14 @@ mod attributes;
 mod entries;
 mod free;
 mod labels;
+pub mod laws;
 mod names;
 mod object;
 mod records;
 mod text;
+mod widths;
 
+pub use attributes::attribute_words;
 pub use free::free_text;
 pub use text::table_text;
+pub use widths::field_widths;

@@ -1,7 +1,9 @@
 //! What holds of places, wherever they are looked for.
 
 ghost use Rattle.std.specs.Prelude.{◌≡◌, ◌≢◌, ◌≤◌, ◌*◌, ℕ, List, ◌⊎◌};
+ghost use Rattle.pt_edit.specs.declared.free.FreeBlock.{FreeBlock};
 ghost use Rattle.pt_edit.specs.declared.space.space.Run.{Run};
+ghost use Rattle.pt_edit.specs.Free.{AreFree, Place};
 ghost use Rattle.pt_words.specs.declared.word.End.{End};
 ghost use Rattle.pt_words.specs.declared.error.Refusal.{Refusal};
 ghost use Rattle.pt_edit.specs.Space.{AreBlocks, SameSectors, with_taken, Area, IsBlock, IsFreeRun, rounded_up, IsRoundedUp};
@@ -34,6 +36,12 @@ pub fn placed_is_free()
 #[tactic(auto, using(crate::proofs::AllBlocks::blocks_are_one))]
 pub fn blocks_one()
     ensures { (a : Area) (xs ys : List Run) → AreBlocks a xs → AreBlocks a ys → xs ≡ ys }
+{}
+
+/// Places have one list of free blocks.
+#[tactic(auto, using(crate::proofs::FreeLists::free_is_one))]
+pub fn free_one()
+    ensures { (places : List Place) (xs ys : List FreeBlock) → AreFree places xs → AreFree places ys → xs ≡ ys }
 {}
 
 /// What is placed lies in a block.

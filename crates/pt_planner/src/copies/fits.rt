@@ -12,7 +12,7 @@ fn all_typed(entries: &[Option<Entry>]) -> bool
     ensures { IsTrue result ↔ AllTyped entries.now }
 {
     for k in 0..entries.len() {
-        if let Some(entry) = entries[k] {
+        if let Some(entry) = &entries[k] {
             if entry.kind.0 == [0; 16] {
                 return false;
             }

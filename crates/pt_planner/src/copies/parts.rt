@@ -1,17 +1,17 @@
 //! The parts of the phases: a header, an array, the whole backup copy, and a single write.
 
-ghost use Rattle.std.specs.Prelude.{◌≡◌, ◌+◌, ◌-◌, ◌*◌, ◌<◌, ◌≤◌, ◌^◌, ◌++◌, length, IfOk, OnOk};
+ghost use Rattle.std.specs.Prelude.{◌≡◌, ◌+◌, ◌-◌, ◌*◌, ◌<◌, ◌≤◌, ◌^◌, ◌++◌, length, List, Option, IfOk, OnOk};
 ghost use Rattle.pt_sector.specs.Sectors.{IsSectorSize};
 ghost use Rattle.pt_apply.specs.Plans.{writes_of};
-ghost use Rattle.pt_sum.specs.Sums.{crc_of};
-ghost use Rattle.pt_gpt.specs.Copies.{array_len, array_bytes, AllFit, HasRoom};
+ghost use Rattle.pt_gpt.specs.Copies.{array_len, AllFit, HasRoom, IsEncoded};
+ghost use Rattle.pt_gpt.specs.declared.entry.Entry.{Entry as EntryValue};
 ghost use Rattle.pt_cases.specs.Writes.{other_side as opposite, header_of, IsWrittenHeader, array_writes, one_write};
 ghost use Rattle.pt_planner.specs.inner.Phases.{AddsBackup};
 
 use pt_apply::Write;
 use pt_gpt::{
-    ENTRY_SIZE, Entry, Header, Side, Table, array_at, array_crc, array_sectors,
-    encode_array_sector, encode_header, header_at,
+    ENTRY_SIZE, EncodedArray, Header, Side, Table, array_at, array_sectors, encode_header,
+    header_at,
 };
 use pt_sector::{Lba, Sector};
 use std::alloc::{AllocError, Global};
@@ -25,26 +25,17 @@ fn other_side(side: Side) -> Side
     }
 }
 
-/// The sum of the table's array, which both headers have.
-pub(crate) fn sum_of(table: &Table) -> u32
-    ensures sum { result ≡ crc_of (array_bytes table.now.entries) }
-    ensures fit { AllFit table.now.entries }
-{
-    array_crc(table.entries.as_slice())
-}
-
-/// The sector of a side's header for the table, by the sum of its array.
+/// The sector of a side's header for the table, by the table's array.
 pub(crate) fn header_sector<const B: usize>(
     sectors: u64,
     table: &Table,
-    sum: u32,
+    array: &EncodedArray,
     side: Side,
 ) -> Sector<B>
     requires size { IsSectorSize B }
     requires room { HasRoom B sectors }
     requires few { length table.now.entries ≤ 128 }
-    requires sum { sum ≡ crc_of (array_bytes table.now.entries) }
-    requires fit { AllFit table.now.entries }
+    requires array { IsEncoded table.now.entries array.now }
     ensures bytes { IsWrittenHeader B (header_of B sectors table.now side) result }
     ensures fit { AllFit table.now.entries }
 {
@@ -57,7 +48,7 @@ pub(crate) fn header_sector<const B: usize>(
         array: array_at::<B>(side, sectors),
         count: table.entries.len() as u32,
         entry_size: ENTRY_SIZE as u32,
-        array_crc: sum,
+        array_crc: array.crc,
     })
 }
 
@@ -78,21 +69,25 @@ pub(crate) fn single<const B: usize>(
     Ok(writes)
 }
 
-/// Adds the writes of a whole array from a sector on.
+/// Adds the writes of an array from a sector on.
 pub(crate) fn push_array<const B: usize>(
     writes: &mut Vec<Write<B>>,
-    entries: &[Option<Entry>],
+    array: &EncodedArray,
     at: u64,
 ) -> Result<(), AllocError>
     requires size { IsSectorSize B }
     requires room { at + array_len B < 2 ^ 64 }
-    ensures { OnOk result (writes_of writes.new.items ≡ writes_of writes.old.items ++ array_writes B entries.now at (array_len B)) }
+    requires long { length array.now.bytes.items ≡ 16384 }
+    ensures { OnOk result ((es : List (Option EntryValue)) → IsEncoded es array.now
+        → writes_of writes.new.items ≡ writes_of writes.old.items ++ array_writes B es at (array_len B)) }
 {
-    for k in 0..array_sectors::<B>() {
-        writes.push(Write {
-            lba: Lba(at + k),
-            bytes: encode_array_sector::<B>(entries, k),
-        })?;
+    let (sectors, _) = array.bytes.as_chunks::<B>();
+    writes.reserve(sectors.len())?;
+    for k in 0..sectors.len() {
+        writes.push_reserved(Write {
+            lba: Lba(at + k as u64),
+            bytes: sectors[k],
+        });
     }
     Ok(())
 }
@@ -102,20 +97,19 @@ pub(crate) fn push_backup<const B: usize>(
     writes: &mut Vec<Write<B>>,
     sectors: u64,
     table: &Table,
-    sum: u32,
+    array: &EncodedArray,
 ) -> Result<(), AllocError>
     requires size { IsSectorSize B }
     requires room { HasRoom B sectors }
     requires few { length table.now.entries ≤ 128 }
-    requires sum { sum ≡ crc_of (array_bytes table.now.entries) }
-    requires fit { AllFit table.now.entries }
+    requires array { IsEncoded table.now.entries array.now }
     ensures { OnOk result (AddsBackup B sectors table.now (writes_of writes.old.items) (writes_of writes.new.items)) }
 {
-    let at = array_at::<B>(Side::Backup, sectors);
-    push_array(writes, table.entries.as_slice(), at)?;
+    writes.reserve(array_sectors::<B>() as usize + 1)?;
+    push_array(writes, array, array_at::<B>(Side::Backup, sectors))?;
     writes.push(Write {
         lba: Lba(sectors - 1),
-        bytes: header_sector(sectors, table, sum, Side::Backup),
+        bytes: header_sector(sectors, table, array, Side::Backup),
     })?;
     Ok(())
 }

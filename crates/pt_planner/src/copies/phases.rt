@@ -1,21 +1,21 @@
 //! Plans that write both copies of a table, and labels with them.
 
-ghost use Rattle.std.specs.Prelude.{◌≡◌, ◌<◌, ◌≤◌, ◌∷◌, ◌++◌, [], length, All, IfOk, OnOk};
+ghost use Rattle.std.specs.Prelude.{◌≡◌, ◌<◌, ◌≤◌, ◌∷◌, ◌++◌, [], ℕ, length, All, IfOk, OnOk};
 ghost use Rattle.pt_sector.specs.Sectors.{IsSectorSize};
 ghost use Rattle.pt_apply.specs.Plans.{writes_of, phases_of, InRange, PhaseInRange, writes_in};
 ghost use Rattle.pt_apply.specs.inner.Plans.{phases_in};
-ghost use Rattle.pt_sum.specs.Sums.{crc_of};
-ghost use Rattle.pt_gpt.specs.Copies.{array_bytes, AllFit, HasRoom};
+ghost use Rattle.pt_gpt.specs.Copies.{HasRoom, IsEncoded};
 ghost use Rattle.pt_gpt.specs.declared.table.Side.TheVariants.{Primary};
+ghost use Rattle.pt_gpt.specs.declared.table.Table.{Table as TableValue};
 ghost use Rattle.pt_cases.specs.Cases.{backup_first_phases, primary_first_phases, from_mbr_phases, primary_and_labels};
 ghost use Rattle.pt_cases.specs.Writes.{array_phase, one_write};
 ghost use Rattle.pt_cases.specs.Keeps.{copies_bound};
 ghost use Rattle.pt_planner.specs.inner.Phases.{ArePrimary};
 ghost use Rattle.pt_planner.specs.Phases.{last_of, WroteCopies};
 
-use crate::copies::parts::{header_sector, push_array, push_backup, single, sum_of};
+use crate::copies::parts::{header_sector, push_array, push_backup, single};
 use pt_apply::{Plan, Write};
-use pt_gpt::{Side, Table};
+use pt_gpt::{EncodedArray, Side, Table, encode_array};
 use pt_sector::Sector;
 use std::alloc::{AllocError, Global};
 
@@ -25,30 +25,30 @@ const PRIMARY_ARRAY: u64 = 2;
 /// The primary array.
 fn primary_array<const B: usize>(
     alloc: Global,
-    sectors: u64,
-    table: &Table,
+    array: &EncodedArray,
 ) -> Result<Vec<Write<B>>, AllocError>
     requires size { IsSectorSize B }
-    requires room { HasRoom B sectors }
-    ensures { IfOk result (λ ws. writes_of ws.items ≡ array_phase B sectors table.now Primary) }
+    requires long { length array.now.bytes.items ≡ 16384 }
+    ensures { IfOk result (λ ws. (n : ℕ) (t : TableValue) → IsEncoded t.entries array.now
+        → writes_of ws.items ≡ array_phase B n t Primary) }
 {
     let mut writes = Vec::new(alloc);
-    push_array(&mut writes, table.entries.as_slice(), PRIMARY_ARRAY)?;
+    push_array(&mut writes, array, PRIMARY_ARRAY)?;
     Ok(writes)
 }
 
 /// The primary array, and labels after it.
 fn array_and_labels<const B: usize>(
     alloc: Global,
-    sectors: u64,
-    table: &Table,
+    array: &EncodedArray,
     labels: &[Write<B>],
 ) -> Result<Vec<Write<B>>, AllocError>
     requires size { IsSectorSize B }
-    requires room { HasRoom B sectors }
-    ensures { IfOk result (λ ws. writes_of ws.items ≡ primary_and_labels B sectors table.now (writes_of labels.now)) }
+    requires long { length array.now.bytes.items ≡ 16384 }
+    ensures { IfOk result (λ ws. (n : ℕ) (t : TableValue) → IsEncoded t.entries array.now
+        → writes_of ws.items ≡ primary_and_labels B n t (writes_of labels.now)) }
 {
-    let mut writes = primary_array(alloc, sectors, table)?;
+    let mut writes = primary_array(alloc, array)?;
     writes.extend_from_slice(labels)?;
     Ok(writes)
 }
@@ -80,27 +80,26 @@ fn push_single<const B: usize>(
 /// Adds the phases of the primary copy: its header zeroed, a phase that has its array, and its header.
 fn push_primary<const B: usize>(
     phases: &mut Vec<Vec<Write<B>>>,
-    array: Vec<Write<B>>,
+    writes: Vec<Write<B>>,
     alloc: Global,
     sectors: u64,
     table: &Table,
-    sum: u32,
+    array: &EncodedArray,
 ) -> Result<(), AllocError>
     requires size { IsSectorSize B }
     requires room { HasRoom B sectors }
     requires few { length table.now.entries ≤ 128 }
-    requires sum { sum ≡ crc_of (array_bytes table.now.entries) }
-    requires fit { AllFit table.now.entries }
-    ensures { OnOk result (ArePrimary B sectors table.now (writes_of array.entry.items) (phases_in phases.old.items)
+    requires array { IsEncoded table.now.entries array.now }
+    ensures { OnOk result (ArePrimary B sectors table.now (writes_of writes.entry.items) (phases_in phases.old.items)
         (phases_in phases.new.items)) }
 {
     push_single(phases, alloc, 1, &[0; B])?;
-    push_phase(phases, array)?;
+    push_phase(phases, writes)?;
     push_single(
         phases,
         alloc,
         1,
-        &header_sector(sectors, table, sum, Side::Primary),
+        &header_sector(sectors, table, array, Side::Primary),
     )?;
     Ok(())
 }
@@ -139,13 +138,13 @@ pub fn backup_first<const B: usize>(
     ensures some { IfOk result (λ plan. All (λ p. 0 < length p.items) plan.phases.items) }
     ensures count { IfOk result (λ plan. length (writes_in (phases_of plan)) ≤ copies_bound B (length labels.entry.items)) }
 {
-    let sum = sum_of(table);
+    let array = encode_array(alloc, table.entries.as_slice())?;
     let mut front = labels;
-    push_backup(&mut front, sectors, table, sum)?;
-    let array = primary_array(alloc, sectors, table)?;
+    push_backup(&mut front, sectors, table, &array)?;
+    let writes = primary_array(alloc, &array)?;
     let mut phases = Vec::new(alloc);
     push_phase(&mut phases, front)?;
-    push_primary(&mut phases, array, alloc, sectors, table, sum)?;
+    push_primary(&mut phases, writes, alloc, sectors, table, &array)?;
     push_last(&mut phases, alloc, last)?;
     Ok(Plan { phases })
 }
@@ -169,12 +168,12 @@ pub fn primary_first<const B: usize>(
     ensures some { IfOk result (λ plan. All (λ p. 0 < length p.items) plan.phases.items) }
     ensures count { IfOk result (λ plan. length (writes_in (phases_of plan)) ≤ copies_bound B (length labels.entry.items)) }
 {
-    let sum = sum_of(table);
-    let array = array_and_labels(alloc, sectors, table, labels.as_slice())?;
+    let array = encode_array(alloc, table.entries.as_slice())?;
+    let writes = array_and_labels(alloc, &array, labels.as_slice())?;
     let mut backup = Vec::new(alloc);
-    push_backup(&mut backup, sectors, table, sum)?;
+    push_backup(&mut backup, sectors, table, &array)?;
     let mut phases = Vec::new(alloc);
-    push_primary(&mut phases, array, alloc, sectors, table, sum)?;
+    push_primary(&mut phases, writes, alloc, sectors, table, &array)?;
     push_phase(&mut phases, backup)?;
     push_last(&mut phases, alloc, last)?;
     Ok(Plan { phases })
@@ -198,11 +197,12 @@ pub fn from_mbr<const B: usize>(
     ensures some { IfOk result (λ plan. All (λ p. 0 < length p.items) plan.phases.items) }
     ensures count { IfOk result (λ plan. length (writes_in (phases_of plan)) ≤ copies_bound B (length labels.entry.items)) }
 {
-    let sum = sum_of(table);
-    let mut writes = single(alloc, 1, &header_sector(sectors, table, sum, Side::Primary))?;
-    push_array(&mut writes, table.entries.as_slice(), PRIMARY_ARRAY)?;
+    let array = encode_array(alloc, table.entries.as_slice())?;
+    let header = header_sector(sectors, table, &array, Side::Primary);
+    let mut writes = single(alloc, 1, &header)?;
+    push_array(&mut writes, &array, PRIMARY_ARRAY)?;
     writes.extend_from_slice(labels.as_slice())?;
-    push_backup(&mut writes, sectors, table, sum)?;
+    push_backup(&mut writes, sectors, table, &array)?;
     let mut phases = Vec::new(alloc);
     push_phase(&mut phases, writes)?;
     push_single(&mut phases, alloc, 0, head)?;

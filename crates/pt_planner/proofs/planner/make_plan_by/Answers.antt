@@ -7,7 +7,8 @@ use Rattle.pt_sector.specs.Overlays.{OnlyReads}
 use Rattle.pt_cases.specs.Unplanned.{fault_in}
 use Rattle.pt_layout.specs.Healthy.{VerdictReads}
 use Rattle.pt_planner.specs.PlanReads.{FailedInPlan, PlanReadsBy, MakeReadsBy}
-use Rattle.pt_planner.proofs.Failing.{failed_planned, plan_wider, failure_blames, failure_unplanned}
+use Rattle.pt_planner.proofs.Failing.{failed_planned, plan_wider, failure_blames}
+use Rattle.pt_planner.proofs.NewMbr.{failure_unplanned_by}
 use Rattle.pt_planner.proofs.Making.{err_so}
 use Rattle.pt_planner.proofs.planner.make_plan_by.Goals as goal
 
@@ -80,4 +81,5 @@ returns-in_err-known-clause-place g c = λ tells.
 pub returns-in_err-known-clause-err : goal.returns-in_err-known-clause-err
 returns-in_err-known-clause-err g c = λ tells.
     let p = err_from_is_err_and c.from_residual-in_err-known.result c.from_residual-in_err-known.ensures.1 in
-    rw (p.1, p.2) (failure_unplanned g.row.B (g.D.Disk.told c.args.disk.now).seen c.args.wanted.now c.in_err-known.field-0.0)
+    rw (p.1, p.2) (failure_unplanned_by c.args.primary g.row.B (g.D.Disk.told c.args.disk.now).seen c.args.wanted.now
+    c.in_err-known.field-0.0)

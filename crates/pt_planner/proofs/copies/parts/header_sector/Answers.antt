@@ -9,7 +9,7 @@ returns-clause-bytes g c = record {
         c.other_side.ensures,
         c.array_at.ensures,
         c.len.ensures,
-        c.requires.sum,
+        c.requires.array.crc,
       ) at c.encode_header.ensures.header;
   size = c.encode_header.ensures.size;
   reserved = c.encode_header.ensures.reserved;

@@ -14,6 +14,6 @@ returns-in_err-extend_from_slice g c =
     rw p.1 tt
 
 pub returns : goal.returns
-returns g c =
+returns g c = λ n t encoded.
     ap writes_of c.in_ok-extend_from_slice.ensures.items ∙ writes_both c.in_ok-writes.writes.items c.args.labels.now
-    ∙ ap (λ (ws : Writes). ws ++ writes_of c.args.labels.now) c.in_ok-writes.ensures
+    ∙ ap (λ (ws : Writes). ws ++ writes_of c.args.labels.now) (c.in_ok-writes.ensures n t encoded)

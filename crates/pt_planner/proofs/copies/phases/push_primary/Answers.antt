@@ -6,7 +6,7 @@ use Rattle.pt_planner.proofs.copies.phases.push_primary.Goals as goal
 
 pub returns : goal.returns
 returns g c =
-    are_primary g.row.B c.args.sectors c.args.table.now (writes_of c.args.array.items) c.header_sector.result
+    are_primary g.row.B c.args.sectors c.args.table.now (writes_of c.args.writes.items) c.header_sector.result
     (phases_in c.args.phases.now.items) _ _ _ c.header_sector.ensures.bytes c.header_sector.ensures.fit c.in_ok-push_single.ensures
     c.in_ok-push_phase.ensures c.in_ok-push_single-2.ensures
 
