@@ -1,4 +1,4 @@
 pub mod Opened
 pub mod ReadSoFar
-pub mod TablesRead
 pub mod Texts
+pub mod TextsRead

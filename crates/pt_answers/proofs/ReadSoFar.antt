@@ -1,9 +1,8 @@
 -- Words and plans, as far as they are read.
-use Rattle.std.proofs.Common.{◌≡◌, ◌≢◌, min, ◌+◌, ◌<◌, ◌≤◌, ◌⊎◌, ◌∷◌, [], ◌++◌, ◌∙◌, List, ℕ, ap, sym, subst, map, take, drop, length}
+use Rattle.std.proofs.Common.{◌≡◌, ◌≢◌, min, ◌+◌, ◌<◌, ◌≤◌, ◌⊎◌, ◌∷◌, [], ◌++◌, ◌∙◌, List, ℕ, ap, sym, subst, take, drop, length}
 use Rattle.std.proofs.Common.{get_or, refl, inl, inr, arith}
-use Rattle.std.proofs.Common.{Some, None, Ok, Err, string_bytes, suc, Bool, true, false, nat_lt}
-use Rattle.std.specs.Prelude.{Option, Result, IfSome, IsUtf8, String}
-use Rattle.std.specs.declared.alloc.Global.{Global}
+use Rattle.std.proofs.Common.{Some, None, Ok, Err, suc, Bool, true, false, nat_lt}
+use Rattle.std.specs.Prelude.{Option, Result, IfSome, IsUtf8}
 use Rattle.std.proofs.Math.Seq.{take-suc, split_at}
 use Rattle.std.proofs.lemmas.List.{length-take, take_all}
 use Rattle.pt_apply.specs.declared.plan.Plan.{Plan}
@@ -34,45 +33,31 @@ one_more [] (e ∷ edits) word edit read is = absurd read
 one_more (w ∷ words) [] word edit read is = absurd read
 one_more (w ∷ words) (e ∷ edits) word edit read is = (read.0, one_more words edits word edit read.1 is)
 
-abbrev texts : List (String Global) → List (List ℕ)
-texts words = map string_bytes words
-
-map_append : (xs ys : List (String Global)) → texts (xs ++ ys) ≡ texts xs ++ texts ys
-map_append [] ys = refl
-map_append (x ∷ xs) ys = ap (λ (t : List (List ℕ)). string_bytes x ∷ t) (map_append xs ys)
-
-pub texts_more : (words : List (String Global)) (k : ℕ) (d : String Global) → k < length words
-    → texts (take (k + 1) words) ≡ texts (take k words) ++ string_bytes (get_or words k d) ∷ []
-texts_more words k d within =
+one_step : (words : List (List ℕ)) (k : ℕ) → k < length words → take (k + 1) words ≡ take k words ++ get_or words k [] ∷ []
+one_step words k within =
     let one : k + 1 ≡ suc k = omega arith in
-    ap (λ (n : ℕ). texts (take n words)) one ∙ (ap texts (take-suc words k d within) ∙ map_append (take k words) (get_or words k d ∷ []))
+    ap (λ (n : ℕ). take n words) one ∙ take-suc words k [] within
 
 -- a text that is the word in a place
-abbrev InPlace : List (String Global) → ℕ → String Global → List ℕ → Type 0
-InPlace words k x text = (k < length words) × (x ≡ get_or words k x) × (text ≡ string_bytes x)
+abbrev InPlace : List (List ℕ) → ℕ → List ℕ → Type 0
+InPlace words k text = (k < length words) × (text ≡ get_or words k [])
 
-at_place : (words : List (String Global)) (k : ℕ) (x : String Global) (text : List ℕ) → InPlace words k x text
-    → text ≡ string_bytes (get_or words k x)
-at_place words k x text place = place.2 ∙ ap (λ (w : String Global). string_bytes w) place.1
+pub next_read : (words : List (List ℕ)) (k : ℕ) (text : List ℕ) (edits after : List Edit) (edit : Edit)
+    → InPlace words k text → AreEdits (take k words) edits → IsWord (fields text) edit → after ≡ edits ++ edit ∷ []
+    → AreEdits (take (k + 1) words) after
+next_read words k text edits after edit place read is grown =
+    subst (AreEdits (take (k + 1) words)) (sym grown)
+    (subst (λ (ws : List (List ℕ)). AreEdits ws (edits ++ edit ∷ [])) (sym (one_step words k place.0))
+    (one_more (take k words) edits (get_or words k []) edit read
+    (subst (λ (t : List ℕ). IsWord (fields t) edit) place.1 is)))
 
-pub next_read : (words : List (String Global)) (k : ℕ) (x : String Global) (text : List ℕ) (edits after : List Edit) (edit : Edit)
-    → InPlace words k x text → AreEdits (texts (take k words)) edits → IsWord (fields text) edit → after ≡ edits ++ edit ∷ []
-    → AreEdits (texts (take (k + 1) words)) after
-next_read words k x text edits after edit place read is grown =
-    subst (AreEdits (texts (take (k + 1) words))) (sym grown)
-    (subst (λ (ws : List (List ℕ)). AreEdits ws (edits ++ edit ∷ [])) (sym (texts_more words k x place.0))
-    (one_more (texts (take k words)) edits (string_bytes (get_or words k x)) edit read
-    (subst (λ (t : List ℕ). IsWord (fields t) edit) (at_place words k x text place) is)))
-
-pub first_bad : (words : List (String Global)) (k : ℕ) (d : String Global) (edits : List Edit) (why : EditError) → k < length words
-    → AreEdits (texts (take k words)) edits → IsWordFault (fields (string_bytes (get_or words k d))) why
-    → IsFirstBad (texts words) (string_bytes (get_or words k d))
-first_bad words k d edits why within read fault = let one : suc k ≡ k + 1 = omega arith in record {
-  before = texts (take k words);
-  after = texts (drop (k + 1) words);
+pub first_bad : (words : List (List ℕ)) (k : ℕ) (edits : List Edit) (why : EditError) → k < length words
+    → AreEdits (take k words) edits → IsWordFault (fields (get_or words k [])) why → IsFirstBad words (get_or words k [])
+first_bad words k edits why within read fault = record {
+  before = take k words;
+  after = drop (suc k) words;
   edits = edits;
-  split = ap texts (split_at words k d within) ∙ (map_append (take k words) (get_or words k d ∷ drop (suc k) words)
-      ∙ ap (λ (n : ℕ). texts (take k words) ++ string_bytes (get_or words k d) ∷ texts (drop n words)) one);
+  split = split_at words k [] within;
   read = read;
   why = why;
   fault = fault;
@@ -82,14 +67,13 @@ pub bad_told : (words : List (List ℕ)) (text : List ℕ) (told : Failure) → 
 bad_told words text told bad (inl memory) = inl memory
 bad_told words text told bad (inr named) = inr (named.0, named.1, subst (IsFirstBad words) (sym named.2) bad)
 
-pub bad_next : (words : List (String Global)) (k : ℕ) (x : String Global) (text : List ℕ) (edits : List Edit) (why : EditError)
-    (told : Failure) → InPlace words k x text → AreEdits (texts (take k words)) edits
-    → (why ≢ edit_error.Memory → IsWordFault (fields text) why) → IsUnread why text told → IsBadOr (texts words) told
-bad_next words k x text edits why told place read fault (inl memory) = inl memory
-bad_next words k x text edits why told place read fault (inr unread) =
-    let at = at_place words k x text place in
-    bad_told (texts words) (string_bytes (get_or words k x)) told (first_bad words k x edits why place.0 read
-    (subst (λ (t : List ℕ). IsWordFault (fields t) why) at (fault unread.0))) (subst (λ (t : List ℕ). IsNamed t told) at unread.1)
+pub bad_next : (words : List (List ℕ)) (k : ℕ) (text : List ℕ) (edits : List Edit) (why : EditError) (told : Failure)
+    → InPlace words k text → AreEdits (take k words) edits → (why ≢ edit_error.Memory → IsWordFault (fields text) why)
+    → IsUnread why text told → IsBadOr words told
+bad_next words k text edits why told place read fault (inl memory) = inl memory
+bad_next words k text edits why told place read fault (inr unread) =
+    bad_told words (get_or words k []) told (first_bad words k edits why place.0 read
+    (subst (λ (t : List ℕ). IsWordFault (fields t) why) place.1 (fault unread.0))) (subst (λ (t : List ℕ). IsNamed t told) place.1 unread.1)
 
 pub wanted_bad : (fresh : Option (List ℕ)) (words : List (List ℕ)) (guids : List Guid) (why : Failure) → AreGiven fresh guids
     → IsBadOr words why

@@ -19,8 +19,6 @@ use Rattle.pt_layout.specs.Healthy.{VerdictIs}
 use Rattle.pt_layout.specs.declared.sound.finding.Verdict.{Verdict}
 use Rattle.pt_edit.specs.Free.{AreFree, free_places}
 use Rattle.pt_edit.specs.declared.free.FreeBlock.{FreeBlock}
-use Rattle.pt_edit.specs.Space.{AreBlocks}
-use Rattle.pt_edit.specs.declared.space.space.Run.{Run}
 use Rattle.pt_check.specs.Answers.{Answers as AnswersPlan, Promises}
 use Rattle.pt_check.specs.declared.answer.Answer.{Answer}
 use Rattle.pt_check.specs.declared.answer.Answer.TheVariants.{No, Yes}

@@ -24,7 +24,7 @@ pub data Call (D T : Type 0) : Type 0 where
   Closed : D → Call D T
   -- the file of a plan was opened, or why not
   PlanOpened : List ℕ → Result T OpenError → Call D T
-  -- the file of a table's text was opened, or why not
+  -- the file of a table's text, or of that of runs, was opened, or why not
   TableOpened : List ℕ → Result T OpenError → Call D T
 
 -- what comes of something, from these calls to those

@@ -1,10 +1,13 @@
 pub mod Answers
+pub mod Data
 pub mod Failures
 pub mod Forms
 pub mod Images
 pub mod OnDisks
 pub mod Runs
+pub mod Sentences
 pub mod Sets
 pub mod Statuses
+pub mod Texts
 pub mod Wanted
 pub mod inner

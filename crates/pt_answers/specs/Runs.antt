@@ -37,6 +37,7 @@ use Rattle.pt_report.specs.Replies.{reply_text}
 use Rattle.pt_report.specs.declared.reply.Reply.{Reply}
 use Rattle.pt_report.specs.declared.reply.Reply.TheVariants as reply
 use Rattle.pt_answers.specs.Answers.{NamesCopy, NamesPlace}
+use Rattle.pt_answers.specs.Data.{CarriesFrom, WithRuns}
 use Rattle.pt_answers.specs.Failures.{line_failure}
 use Rattle.pt_answers.specs.Forms.{InForm, IsTypes}
 use Rattle.pt_answers.specs.Images.{Call, Doing, OnImage, OnImages, Sized, Then, WithPlan}
@@ -45,12 +46,10 @@ use Rattle.pt_answers.specs.OnDisks.{ShowsAfter, ShowsCopy, ShowsDisk}
 use Rattle.pt_answers.specs.OnDisks.{VerifiesDisk}
 use Rattle.pt_answers.specs.Sets.{PlansSetting, SetsDisk, WithDraft, WithFresh}
 use Rattle.pt_answers.specs.Statuses.{IsOfOutput}
-use Rattle.pt_report.specs.Statuses.{reply_status}
 use Rattle.pt_answers.specs.Wanted.{IsWanted, words_of}
 use Rattle.pt_answers.specs.declared.failure.Failure.{Failure}
 use Rattle.pt_answers.specs.declared.failure.Failure.TheVariants as failure
 use Rattle.pt_answers.specs.declared.images.Opening.{Opening}
-use Rattle.pt_report.specs.declared.status.Status.{Status}
 use Rattle.pt_answers.specs.declared.words.Wanted.{Wanted}
 
 -- ## A job.
@@ -92,6 +91,17 @@ RunsAdoption g image opening other medium Written primary locked_by old new answ
 RunsAdoption g image opening other medium Planned primary locked_by old new answer =
     OnImages image opening Read other (other_as medium) Read (PlansAdopting (choice_of primary) g g) old new answer
 
+-- the same with the data whose runs a file has, which is read before the images are opened; a plan with data is refused
+abbrev pub AdoptsAs : {D : _} {T : Type 0} {B : _} → Ghosts D B → (T → Option (List ℕ)) → List ℕ → Opening → List ℕ → Medium
+    → Option (List ℕ) → Adoption → PrimaryCopy → LockedBy → Doing (Call D T)
+AdoptsAs g remaining image opening other medium None adoption primary locked_by old new answer =
+    RunsAdoption g image opening other medium adoption primary locked_by old new answer
+AdoptsAs g remaining image opening other medium (Some file) Written primary locked_by old new answer = WithRuns remaining file
+    (λ runs. OnImages image opening (writing locked_by) other (other_as medium) Read (CarriesFrom (choice_of primary) g g runs))
+    old new answer
+AdoptsAs g remaining image opening other medium (Some file) Planned primary locked_by old new answer =
+    (new ≡ old) × (answer ≡ Err failure.PlanWithData)
+
 -- the table of an image is shown, or the one that the plan in a file would leave, or that of one copy of a GPT
 abbrev pub RunsShow : {D : _} {T : Type 0} {B : _} → Ghosts D B → (T → Option (List ℕ)) → Opening → List ℕ → Option (String Global)
     → Option (String Global) → Doing (Call D T)
@@ -126,7 +136,7 @@ abbrev pub SetsTable : {D : _} {T : Type 0} {B : _} → Ghosts D B → (T → Op
 SetsTable g remaining opening image table fresh adoption primary locked_by old new answer = WithFresh fresh
     (λ guids. WithDraft remaining table (λ draft. RunsSet g image opening adoption primary locked_by draft guids)) old new answer
 
--- what is done for a job: `g` are the ghosts of the disks, and `remaining` the bytes of the file of a plan
+-- what is done for a job: `g` are the ghosts of the disks, and `remaining` the bytes of the file of a plan or a text
 abbrev pub RunsJob : {D : _} {T : Type 0} {B : _} → Ghosts D B → (T → Option (List ℕ)) → Opening → Job → Doing (Call D T)
 RunsJob g remaining opening (job.Help text) old new answer = (new ≡ old) × (answer ≡ Ok (reply.Text text))
 RunsJob g remaining opening (job.Show image after copy form) old new answer =
@@ -138,10 +148,10 @@ RunsJob g remaining opening (job.Locate image path place) old new answer = WithP
 RunsJob g remaining opening (job.Free image form) old new answer = FreesAs g (string_bytes image) opening form old new answer
 RunsJob g remaining opening job.Types old new answer = (new ≡ old) × IsTypes answer
 RunsJob g remaining opening (job.Edit image fresh words primary locked_by) old new answer =
-    WithWords (option_map string_bytes fresh) (map string_bytes words.items)
+    WithWords (option_map string_bytes fresh) words
     (λ wanted. OnImage (string_bytes image) opening (writing locked_by) (EditsDisk (choice_of primary) g (words_of wanted))) old new answer
 RunsJob g remaining opening (job.Plan image fresh words primary) old new answer =
-    WithWords (option_map string_bytes fresh) (map string_bytes words.items)
+    WithWords (option_map string_bytes fresh) words
     (λ wanted. OnImage (string_bytes image) opening Read (PlansOn (choice_of primary) g (words_of wanted))) old new answer
 RunsJob {D} {T} {B} g remaining opening (job.Check image file) old new answer =
     WithPlan B remaining (string_bytes file) (λ plan. OnImage (string_bytes image) opening Read (ChecksOn g (phases_of plan))) old new
@@ -150,8 +160,9 @@ RunsJob {D} {T} {B} g remaining opening (job.Apply image file locked_by) old new
     (λ plan. OnImage (string_bytes image) opening (writing locked_by) (AppliesTo g (phases_of plan))) old new answer
 RunsJob g remaining opening (job.Repair image primary locked_by) old new answer =
     OnImage (string_bytes image) opening (writing locked_by) (RepairsDisk (choice_of primary) g) old new answer
-RunsJob g remaining opening (job.Adopt image other medium adoption primary locked_by) old new answer =
-    RunsAdoption g (string_bytes image) opening (string_bytes other) medium adoption primary locked_by old new answer
+RunsJob g remaining opening (job.Adopt image other medium file adoption primary locked_by) old new answer =
+    AdoptsAs g remaining (string_bytes image) opening (string_bytes other) medium (option_map string_bytes file) adoption primary locked_by
+    old new answer
 RunsJob g remaining opening (job.Set image table fresh adoption primary locked_by) old new answer =
     SetsTable g remaining opening (string_bytes image) (string_bytes table) (option_map string_bytes fresh) adoption primary locked_by
     old new answer
@@ -170,7 +181,7 @@ image_of (job.Plan image fresh words primary) = Some (string_bytes image)
 image_of (job.Check image file) = Some (string_bytes image)
 image_of (job.Apply image file locked_by) = Some (string_bytes image)
 image_of (job.Repair image primary locked_by) = Some (string_bytes image)
-image_of (job.Adopt image other medium adoption primary locked_by) = Some (string_bytes image)
+image_of (job.Adopt image other medium file adoption primary locked_by) = Some (string_bytes image)
 image_of (job.Set image table fresh adoption primary locked_by) = Some (string_bytes image)
 
 -- that of a device which has sectors of so many bytes: another one than 512 and 4096 is refused where the device is opened, as is one
@@ -191,10 +202,10 @@ Sizes None Device (Some path) old new answer =
 
 -- ## A line.
 
--- an answer is printed, with its status, unless the output fails; of a failure nothing is
-abbrev pub Prints : ℕ → Result Reply Failure → Option (List ℕ) → Option (List ℕ) → Result Status Failure → Type 0
+-- an answer is printed, and given, unless the output fails; of a failure nothing is printed
+abbrev pub Prints : ℕ → Result Reply Failure → Option (List ℕ) → Option (List ℕ) → Result Reply Failure → Type 0
 Prints b (Ok reply) old new result = OnOk result (Appends old new (reply_text b reply))
-    × IfOk result (λ status. status ≡ reply_status reply) × IfErr result IsOfOutput
+    × IfOk result (λ given. given ≡ reply) × IfErr result IsOfOutput
 Prints b (Err why) old new result = Keeps old new × (result ≡ Err why)
 
 abbrev pub opening_of : Line → Opening
@@ -202,14 +213,14 @@ opening_of line = record { medium = line.medium; in_use = line.in_use }
 
 -- what is done for a line on disks with sectors of `B` bytes, and printed
 abbrev pub RunsLine : {D : _} {T : Type 0} {B : _} → Ghosts D B → (T → Option (List ℕ)) → Line → List (Call D T) → List (Call D T)
-    → Option (List ℕ) → Option (List ℕ) → Result Status Failure → Type 0
+    → Option (List ℕ) → Option (List ℕ) → Result Reply Failure → Type 0
 RunsLine {D} {T} {B} g remaining line old new printed_old printed_new result = (answer : Result Reply Failure)
     × RunsJob g remaining (opening_of line) line.job old new answer × Prints B answer printed_old printed_new result
 
 -- the line on images with sectors of this size, where that was found: `small` opens those of 512 bytes, and `large` those of 4,096
 abbrev pub RunsSized : {D E T : Type 0} → Ghosts D 512 → Ghosts E 4096 → (T → Option (List ℕ)) → Line → Result SectorSize Failure
     → List (Call D T) → List (Call D T) → List (Call E T) → List (Call E T)
-    → Option (List ℕ) → Option (List ℕ) → Result Status Failure → Type 0
+    → Option (List ℕ) → Option (List ℕ) → Result Reply Failure → Type 0
 RunsSized g h remaining line (Err why) small_old small_new large_old large_new old new result =
     (small_new ≡ small_old) × (large_new ≡ large_old) × Keeps old new × (result ≡ Err why)
 RunsSized g h remaining line (Ok Bytes512) small_old small_new large_old large_new old new result =
@@ -220,7 +231,7 @@ RunsSized g h remaining line (Ok Bytes4096) small_old small_new large_old large_
 -- what a line comes to: nothing is opened where the words are none; else the size of a sector is found first
 abbrev pub RunsRead : {D E T : Type 0} → Ghosts D 512 → Ghosts E 4096 → (T → Option (List ℕ)) → Result Line LineError
     → List (Call D T) → List (Call D T) → List (Call E T) → List (Call E T)
-    → Option (List ℕ) → Option (List ℕ) → Result Status Failure → Type 0
+    → Option (List ℕ) → Option (List ℕ) → Result Reply Failure → Type 0
 RunsRead g h remaining (Err error) small_old small_new large_old large_new old new result =
     (small_new ≡ small_old) × (large_new ≡ large_old) × Keeps old new × (result ≡ Err (line_failure error))
 RunsRead {D} {E} {T} g h remaining (Ok line) small_old small_new large_old large_new old new result =
@@ -228,9 +239,9 @@ RunsRead {D} {E} {T} g h remaining (Ok line) small_old small_new large_old large
     × Sizes line.size line.medium (image_of line.job) small_old between size
     × RunsSized g h remaining line size between small_new large_old large_new old new result
 
--- a run of the command: its words, the calls that it made, what its output holds, and its status or why it ended without an answer
+-- a run of the command: its words, the calls that it made, what its output holds, and the answer or why it ended without one
 abbrev pub RunsWords : {D E T : Type 0} → Ghosts D 512 → Ghosts E 4096 → (T → Option (List ℕ)) → List (List ℕ)
     → List (Call D T) → List (Call D T) → List (Call E T) → List (Call E T)
-    → Option (List ℕ) → Option (List ℕ) → Result Status Failure → Type 0
+    → Option (List ℕ) → Option (List ℕ) → Result Reply Failure → Type 0
 RunsWords g h remaining words small_old small_new large_old large_new old new result = (line : Result Line LineError) × Means words line
     × RunsRead g h remaining line small_old small_new large_old large_new old new result

@@ -1,11 +1,10 @@
 -- `set`: a table's text as it is read, and what is done with it.
-use Rattle.std.specs.Prelude.{◌≡◌, ◌≤◌, ◌<◌, ◌⊎◌, ℕ, List, ◌∷◌, Option, Result, Ok, Err, IfErr, IfSome, IsUtf8, length}
+use Rattle.std.specs.Prelude.{◌≡◌, ◌⊎◌, ℕ, List, Option, Result, Ok, Err, IfErr}
 use Rattle.pt_sector.specs.Device.{Blames, with_fault}
 use Rattle.pt_sector.specs.Overlays.{OnlyReads}
 use Rattle.pt_sector.specs.declared.disk.Disk.{Ghosts}
 use Rattle.pt_guid.specs.declared.guid.Guid.{Guid}
 use Rattle.pt_cases.specs.declared.primary.Primary.{Primary as Choice}
-use Rattle.pt_disks.specs.declared.open.OpenError.{OpenError}
 use Rattle.pt_drafts.specs.Tables.{draft_of}
 use Rattle.pt_drafts.specs.declared.draft.Draft.{Draft}
 use Rattle.pt_set.specs.Sets.{Becomes, IsPlanFor, NotPlanned, SetHidesNoFailure, set_fault_in}
@@ -14,12 +13,13 @@ use Rattle.pt_report.specs.declared.reply.Reply.{Reply}
 use Rattle.pt_report.specs.declared.reply.Reply.TheVariants as reply
 use Rattle.pt_answers.specs.Answers.{Answers, Plans}
 use Rattle.pt_answers.specs.Failures.{set_failure}
-use Rattle.pt_answers.specs.Images.{Call, Doing, TableOpened, Then, most_text}
+use Rattle.pt_answers.specs.Images.{Call, Doing, Then}
 use Rattle.pt_answers.specs.OnDisks.{IsSameDisk}
 use Rattle.pt_answers.specs.Wanted.{AreGiven, AreNotGiven}
 use Rattle.pt_answers.specs.declared.failure.Failure.{Failure}
 use Rattle.pt_answers.specs.declared.failure.Failure.TheVariants as failure
-use Rattle.pt_answers.specs.declared.failure.NoText.TheVariants.{Unreadable, TooLong, NotUtf8}
+use Rattle.pt_answers.specs.Texts.{IsTextIn, IsUnread, WithText}
+use Rattle.pt_answers.specs.declared.failure.TextOf.TheVariants.{Table}
 
 -- ## The disk.
 
@@ -43,34 +43,17 @@ PlansSetting {D} {B} primary g draft fresh old new answer = OnlyReads g old new 
 
 -- ## The text.
 
--- the text of a file whose bytes are known, if they are
-abbrev pub IsTextIn : Option (List ℕ) → (List ℕ → Type 0) → Type 0
-IsTextIn known Holds = IfSome known (λ bytes. (length bytes ≤ most_text) × IsUtf8 bytes × Holds bytes)
-
 -- what a file is read as: a draft, or why it gives none
 abbrev pub ReadsDraft : Option (List ℕ) → Result Draft Failure → Type 0
 ReadsDraft known (Ok draft) = IsTextIn known (λ text. draft_of text ≡ Ok draft)
 ReadsDraft known (Err (failure.Table fault)) = IsTextIn known (λ text. draft_of text ≡ Err fault)
-ReadsDraft known (Err (failure.NoText Unreadable)) = Unit {0}
-ReadsDraft known (Err (failure.NoText TooLong)) = IfSome known (λ bytes. most_text < length bytes)
-ReadsDraft known (Err (failure.NoText NotUtf8)) = IfSome known (λ bytes. (length bytes ≤ most_text) × ¬ IsUtf8 bytes)
+ReadsDraft known (Err (failure.NoText Table why)) = IsUnread known why
 ReadsDraft known (Err failure.Memory) = Unit {0}
 ReadsDraft known (Err _) = ⊥
 
--- what comes of a file that was opened, or wasn't
-abbrev pub OfText : {T : Type 0} → (T → Option (List ℕ)) → Result T OpenError → Result Draft Failure → Type 0
-OfText remaining (Ok file) draft = ReadsDraft (remaining file) draft
-OfText remaining (Err error) draft = draft ≡ Err (failure.NoText Unreadable)
-
--- the file of a table's text is opened and read
-abbrev pub IsDraftAt : {D T : Type 0} → (T → Option (List ℕ)) → List ℕ → List (Call D T) → List (Call D T) → Result Draft Failure → Type 0
-IsDraftAt {D} {T} remaining path old new draft =
-    (opened : Result T OpenError) × (new ≡ TableOpened path opened ∷ old) × OfText remaining opened draft
-
 -- the file of a table's text is opened and read, and with the draft this comes next
 abbrev pub WithDraft : {D T : Type 0} → (T → Option (List ℕ)) → List ℕ → (Draft → Doing (Call D T)) → Doing (Call D T)
-WithDraft {D} {T} remaining path Next old new answer = (between : List (Call D T)) × (draft : Result Draft Failure)
-    × IsDraftAt remaining path old between draft × Then Next draft between new answer
+WithDraft = WithText ReadsDraft Table
 
 -- the fresh GUIDs are read before any file
 abbrev pub AreRead : Option (List ℕ) → Result (List Guid) Failure → Type 0

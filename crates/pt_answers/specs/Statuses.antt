@@ -36,7 +36,7 @@ opening_status opening.Locked = Refused
 opening_status (opening.InUse by) = Refused
 opening_status opening.Memory = Memory
 
--- of a table's text that isn't read
+-- of a table's text that isn't read, or that of runs
 abbrev pub text_status : Unreadable → Status
 text_status no_text.Unreadable = Device
 text_status no_text.TooLong = Usage
@@ -46,24 +46,30 @@ abbrev pub failure_status : Failure → Status
 failure_status failure.NotText = Usage
 failure_status (failure.Usage error) = Usage
 failure_status failure.InUseAlone = Usage
+failure_status failure.TwoForms = Usage
+failure_status failure.PlanWithData = Usage
 failure_status (failure.BadWord word) = Usage
 failure_status failure.BadFresh = Usage
+failure_status (failure.BadData number) = Usage
 failure_status failure.BadPath = Usage
 failure_status failure.BadNumber = Usage
 failure_status failure.BadCopy = Usage
-failure_status (failure.Edit number) = Refused
-failure_status (failure.Plan number) = Refused
-failure_status (failure.Check number) = Refused
-failure_status (failure.Repair number) = Refused
+failure_status (failure.Edit refusal) = Refused
+failure_status (failure.Plan error) = Refused
+failure_status (failure.Check why) = Refused
+failure_status (failure.Repair error) = Refused
 failure_status (failure.PlanText number) = Refused
 failure_status (failure.Table fault) = Refused
-failure_status (failure.NoText why) = text_status why
+failure_status (failure.NoText of why) = text_status why
+failure_status (failure.Unfit at why) = Refused
 failure_status failure.OtherSize = Refused
 failure_status (failure.OtherOpening why) = opening_status why
 failure_status (failure.Other why) = reason_status why
 failure_status (failure.NoTable why) = reason_status why
 failure_status (failure.NoSide side why) = side_status why
 failure_status (failure.Opening why) = opening_status why
+failure_status (failure.Fault fault) = Device
+failure_status (failure.Differs at) = Device
 failure_status failure.Device = Device
 failure_status failure.ClosedPipe = Device
 failure_status failure.Memory = Memory

@@ -1,21 +1,26 @@
-//! A run of the command: a line of words, what it opens, an output stream, and an exit status.
+//! A run of the command: a line of words, what it opens, an output stream, and an answer.
 
 ghost use Rattle.std.specs.Prelude.{◌≡◌, [], option_map, string_bytes, Ok, OnOk};
 ghost use Rattle.std.specs.Io.Buffered.{writer_buffer, writer_contents};
 ghost use Rattle.clap.specs.Walk.{texts as slice_texts};
 ghost use Rattle.pt_sector.specs.Sectors.{IsSectorSize};
-ghost use Rattle.pt_answers.specs.Images.{IsPlanAt};
-ghost use Rattle.pt_answers.specs.Runs.{FreesAs, Prints, RunsAdoption, RunsJob, RunsSet, SetsTable};
+ghost use Rattle.pt_answers.specs.Data.{CarriesFrom, ReadsRuns, WithRuns};
+ghost use Rattle.pt_answers.specs.Images.{IsPlanAt, OnImages};
+ghost use Rattle.pt_answers.specs.Runs.{AdoptsAs, FreesAs, Prints, RunsAdoption, RunsJob, RunsSet, SetsTable};
 ghost use Rattle.pt_answers.specs.Runs.{RunsLine, RunsShow, RunsSized, RunsWords, ShowsAs, Sizes};
-ghost use Rattle.pt_answers.specs.Sets.{IsDraftAt};
-ghost use Rattle.pt_answers.specs.Runs.{image_of, other_as, size_of_device};
+ghost use Rattle.pt_answers.specs.Sets.{ReadsDraft};
+ghost use Rattle.pt_answers.specs.Texts.{IsTextAt};
+ghost use Rattle.pt_answers.specs.declared.failure.TextOf.TheVariants.{Data, Table};
+ghost use Rattle.pt_answers.specs.Runs.{choice_of, image_of, other_as, size_of_device, writing};
+ghost use Rattle.pt_disks.specs.declared.open.Access.TheVariants.{Read as Reading};
 
-use crate::failure::{Failure, NoText};
+use crate::data_file::runs_at;
+use crate::failure::{Failure, NoText, TextOf};
 use crate::forms::{formed, types};
 use crate::images::{Images, Opening};
 use crate::on_images::{
-    apply, check, edit, free, locate, plan, plan_set, plan_taking, repair, set, show, show_planned,
-    show_side, take, verify,
+    apply, carry, check, edit, free, locate, plan, plan_set, plan_taking, repair, set, show,
+    show_planned, show_side, take, verify,
 };
 use crate::plan_file::plan_in;
 use crate::status::printed;
@@ -29,8 +34,8 @@ use pt_guid::Guid;
 use pt_line::{
     Adoption, Form, InUse, Job, Line, LockedBy, Medium, PrimaryCopy, SectorSize, read_line,
 };
-use pt_report::{Reply, Status};
-use pt_sector::Disk;
+use pt_report::Reply;
+use pt_sector::{Disk, Extent};
 use std::alloc::Global;
 use std::io::{BufWriter, Read, Write};
 
@@ -47,8 +52,8 @@ fn plan_at<const B: usize, D: Disk<B> + Drop, T: Read + Drop, I: Images<B, D, T>
     plan_in::<B, T>(alloc, file)
 }
 
-/// What the adoption of another image's table comes to.
-fn adopt<const B: usize, D: Disk<B> + Drop, T: Read + Drop, I: Images<B, D, T>>(
+/// What the adoption of another image's table alone comes to.
+fn adopt_table<const B: usize, D: Disk<B> + Drop, T: Read + Drop, I: Images<B, D, T>>(
     alloc: Global,
     images: &mut I,
     image: &str,
@@ -72,17 +77,97 @@ fn adopt<const B: usize, D: Disk<B> + Drop, T: Read + Drop, I: Images<B, D, T>>(
     }
 }
 
+/// The runs in a file.
+fn runs_in<const B: usize, D: Disk<B> + Drop, T: Read + Drop, I: Images<B, D, T>>(
+    alloc: Global,
+    images: &mut I,
+    path: &str,
+) -> Result<Vec<Extent>, Failure>
+    ensures { IsTextAt ReadsRuns Data T.remaining path.now (I.past images.old) (I.past images.new) result }
+{
+    match images.open_table(path) {
+        Ok(file) => runs_at::<T>(alloc, file),
+        Err(_) => Err(Failure::NoText(TextOf::Data, NoText::Unreadable)),
+    }
+}
+
+/// What the adoption with data comes to. The runs of the data are read before the images are opened.
+fn adopt_with<const B: usize, D: Disk<B> + Drop, T: Read + Drop, I: Images<B, D, T>>(
+    alloc: Global,
+    images: &mut I,
+    image: &str,
+    opening: Opening,
+    other: &str,
+    medium: Medium,
+    file: &str,
+    primary: PrimaryCopy,
+    locked_by: LockedBy,
+) -> Result<Reply, Failure>
+    requires { IsSectorSize B }
+    ensures { WithRuns T.remaining file.now (λ runs. OnImages image.now opening (writing locked_by) other.now (other_as medium) Reading
+        (CarriesFrom (choice_of primary) D.Disk D.Disk runs)) (I.past images.old) (I.past images.new) result }
+{
+    let runs = runs_in(alloc, images, file)?;
+    carry(
+        alloc,
+        images,
+        image,
+        opening,
+        other,
+        as_other(medium),
+        runs.as_slice(),
+        primary,
+        locked_by,
+    )
+}
+
+/// What the adoption of another image's table comes to, with its data or without.
+fn adopt<const B: usize, D: Disk<B> + Drop, T: Read + Drop, I: Images<B, D, T>>(
+    alloc: Global,
+    images: &mut I,
+    image: &str,
+    opening: Opening,
+    other: &str,
+    medium: Medium,
+    data: &Option<String>,
+    adoption: Adoption,
+    primary: PrimaryCopy,
+    locked_by: LockedBy,
+) -> Result<Reply, Failure>
+    requires { IsSectorSize B }
+    ensures { AdoptsAs D.Disk T.remaining image.now opening other.now medium (option_map string_bytes data.now) adoption primary locked_by
+        (I.past images.old) (I.past images.new) result }
+{
+    match (data, adoption) {
+        (None, _) => adopt_table(
+            alloc, images, image, opening, other, medium, adoption, primary, locked_by,
+        ),
+        (Some(file), Adoption::Written) => adopt_with(
+            alloc,
+            images,
+            image,
+            opening,
+            other,
+            medium,
+            file.as_str(),
+            primary,
+            locked_by,
+        ),
+        (Some(_), Adoption::Planned) => Err(Failure::PlanWithData),
+    }
+}
+
 /// The draft in a table's file.
 fn draft_in<const B: usize, D: Disk<B> + Drop, T: Read + Drop, I: Images<B, D, T>>(
     alloc: Global,
     images: &mut I,
     path: &str,
 ) -> Result<Draft, Failure>
-    ensures { IsDraftAt T.remaining path.now (I.past images.old) (I.past images.new) result }
+    ensures { IsTextAt ReadsDraft Table T.remaining path.now (I.past images.old) (I.past images.new) result }
 {
     match images.open_table(path) {
         Ok(file) => draft_at::<T>(alloc, file),
-        Err(_) => Err(Failure::NoText(NoText::Unreadable)),
+        Err(_) => Err(Failure::NoText(TextOf::Table, NoText::Unreadable)),
     }
 }
 
@@ -232,7 +317,7 @@ fn reply_to<const B: usize, D: Disk<B> + Drop, T: Read + Drop, I: Images<B, D, T
             primary,
             locked_by,
         } => {
-            let wanted = Wanted::read(alloc, &fresh, words.as_slice())?;
+            let wanted = Wanted::read(alloc, &fresh, &words)?;
             edit(
                 alloc,
                 images,
@@ -249,7 +334,7 @@ fn reply_to<const B: usize, D: Disk<B> + Drop, T: Read + Drop, I: Images<B, D, T
             words,
             primary,
         } => {
-            let wanted = Wanted::read(alloc, &fresh, words.as_slice())?;
+            let wanted = Wanted::read(alloc, &fresh, &words)?;
             plan(alloc, images, image.as_str(), opening, &wanted, primary)
         }
         Job::Check { image, file } => {
@@ -291,6 +376,7 @@ fn reply_to<const B: usize, D: Disk<B> + Drop, T: Read + Drop, I: Images<B, D, T
             image,
             other,
             other_medium,
+            data,
             adoption,
             primary,
             locked_by,
@@ -301,6 +387,7 @@ fn reply_to<const B: usize, D: Disk<B> + Drop, T: Read + Drop, I: Images<B, D, T
             opening,
             other.as_str(),
             other_medium,
+            &data,
             adoption,
             primary,
             locked_by,
@@ -365,18 +452,18 @@ fn size_of<const B: usize, D: Disk<B> + Drop, T: Read + Drop, I: Images<B, D, T>
     }
 }
 
-// Prints an answer on an image with sectors of `B` bytes, to its end: after Ok nothing waits in the buffer. Where the stream fails, what
-// was done stands.
+// Prints an answer on an image with sectors of `B` bytes, to its end, and gives it: after Ok nothing waits in the buffer. Where the stream
+// fails, what was done stands.
 fn printed_whole<const B: usize, W: Write + Drop>(
-    reply: &Reply,
+    reply: Reply,
     out: &mut BufWriter<W>,
-) -> Result<Status, Failure>
-    ensures prints { Prints B (Ok reply.now) (writer_contents W.contents out.old) (writer_contents W.contents out.new) result }
+) -> Result<Reply, Failure>
+    ensures prints { Prints B (Ok reply) (writer_contents W.contents out.old) (writer_contents W.contents out.new) result }
     ensures whole { OnOk result (writer_buffer out.new ≡ []) }
 {
-    let status = printed::<B, BufWriter<W>>(reply, out)?;
+    printed::<B, BufWriter<W>>(&reply, out)?;
     match out.flush() {
-        Ok(()) => Ok(status),
+        Ok(()) => Ok(reply),
         Err(error) => Err(Failure::of_output(&error)),
     }
 }
@@ -387,7 +474,7 @@ fn answer<const B: usize, D: Disk<B> + Drop, T: Read + Drop, I: Images<B, D, T>,
     images: &mut I,
     line: Line,
     out: &mut BufWriter<W>,
-) -> Result<Status, Failure>
+) -> Result<Reply, Failure>
     requires { IsSectorSize B }
     ensures runs { RunsLine D.Disk T.remaining line (I.past images.old) (I.past images.new)
         (writer_contents W.contents out.old) (writer_contents W.contents out.new) result }
@@ -400,13 +487,13 @@ fn answer<const B: usize, D: Disk<B> + Drop, T: Read + Drop, I: Images<B, D, T>,
         in_use,
     } = line;
     let reply = reply_to::<B, D, T, I>(alloc, images, Opening { medium, in_use }, job)?;
-    printed_whole::<B, W>(&reply, out)
+    printed_whole::<B, W>(reply, out)
 }
 
-/// Runs the command on the words after its name, with its answers on `out`, and gives its status.
+/// Runs the command on the words after its name, with its answer on `out`, and gives that answer.
 ///
 /// `small` opens images with sectors of 512 bytes, and `large` those of 4096. Where `out` fails, also at its end, that is why the command
-/// ends, and what was done stands. A status comes only where all of the answer was handed on to the stream behind `out`.
+/// ends, and what was done stands. An answer comes only where all of it was handed on to the stream behind `out`.
 pub fn run<
     D: Disk<512> + Drop,
     E: Disk<4096> + Drop,
@@ -420,7 +507,7 @@ pub fn run<
     large: &mut J,
     words: &[&str],
     out: &mut BufWriter<W>,
-) -> Result<Status, Failure>
+) -> Result<Reply, Failure>
     ensures runs { RunsWords D.Disk E.Disk T.remaining (slice_texts words.now) (I.past small.old) (I.past small.new) (J.past large.old)
         (J.past large.new) (writer_contents W.contents out.old) (writer_contents W.contents out.new) result }
     ensures whole { OnOk result (writer_buffer out.new ≡ []) }

@@ -5,15 +5,21 @@ ghost use Rattle.std.specs.Io.KnownBytes.{Appends};
 ghost use Rattle.std.specs.IoError.{error_kind};
 ghost use Rattle.pt_answers.specs.Failures.{IsTold, failure_text, fault_line, fault_line_of};
 ghost use Rattle.pt_answers.specs.Failures.{no_text_line, opening_text, output_failure, refusal_line};
+ghost use Rattle.pt_answers.specs.Failures.{reason_word as word_of_reason, unfit_line};
 ghost use Rattle.pt_drafts.specs.Keys.{key_text};
 ghost use Rattle.pt_report.specs.Replies.{no_table_text};
 ghost use Rattle.pt_answers.specs.Statuses.{failure_status, opening_status as status_of_opening, reason_status, side_status, text_status};
 
+use pt_carry::Unfit;
+use pt_check::Why;
 use pt_disks::NoDevice;
 use pt_drafts::{Key, TextFault};
+use pt_edit::Refusal;
 use pt_gpt::Side;
 use pt_layout::{NoTable, SideError};
+use pt_plan::{PlanError, RepairError};
 use pt_report::{Status, print_no_side, print_no_table};
+use pt_sector::{Fault, Lba};
 use std::io;
 use std::io::{ErrorKind, Write};
 
@@ -26,26 +32,34 @@ pub enum Failure {
     Usage(clap::Error),
     /// `--in-use` without `--device`.
     InUseAlone,
+    /// `--json` with `--human`.
+    TwoForms,
+    /// `--plan` with `--data`.
+    PlanWithData,
     BadWord(String),
     BadFresh,
+    /// A text isn't one of runs of sectors: its first bad line, counted from 1.
+    BadData(u64),
     BadPath,
     BadNumber,
     /// `--copy` names neither copy, or stands beside `--after`.
     BadCopy,
-    /// An edit was refused with this number.
-    Edit(u8),
-    /// A plan was refused with this number.
-    Plan(u8),
-    /// A plan was refused by the checker, with this number.
-    Check(u8),
-    /// A repair was refused with this number.
-    Repair(u8),
+    /// Why an edit was refused.
+    Edit(Refusal),
+    /// Why there is no plan.
+    Plan(PlanError),
+    /// Why the checker refused a plan.
+    Check(Why),
+    /// Why a repair was refused.
+    Repair(RepairError),
     /// A text is no plan's: its first bad line, counted from 1; 0 where it is too long or no UTF-8.
     PlanText(u64),
     /// The first fault of a table's text.
     Table(TextFault),
-    /// A table's text isn't read.
-    NoText(NoText),
+    /// A text isn't read.
+    NoText(TextOf, NoText),
+    /// A sector of the data isn't carried over.
+    Unfit(Lba, Unfit),
     /// The image whose table is to be taken has another number of sectors.
     OtherSize,
     /// Why that image isn't opened.
@@ -57,13 +71,27 @@ pub enum Failure {
     NoSide(Side, SideError),
     /// Why the image isn't opened.
     Opening(NoDevice),
+    /// A call on an image failed.
+    Fault(Fault),
+    /// A sector of the data doesn't read as it was written.
+    Differs(Lba),
+    /// The file of a plan can't be read, or the output failed.
     Device,
     /// Nobody reads the output any more: there is no line, since that is nobody's fault.
     ClosedPipe,
     Memory,
 }
 
-/// Why the text of a table isn't read.
+/// Which text it is.
+#[derive(Clone, Copy, Debug, PartialEq, Eq)]
+pub enum TextOf {
+    /// A table's.
+    Table,
+    /// That of runs of sectors, the data.
+    Data,
+}
+
+/// Why a text isn't read.
 #[derive(Clone, Copy, Debug, PartialEq, Eq)]
 pub enum NoText {
     /// Its file can't be opened or read.
@@ -80,6 +108,14 @@ const NOT_TEXT: &[u8] = b"error: an argument isn't UTF-8\n\nFor more information
 /// The same where `--in-use` is given without `--device`.
 const IN_USE_ALONE: &[u8] =
     b"error: the argument '--in-use' needs '--device'\n\nFor more information, try '--help'.\n";
+
+/// The same where `--json` and `--human` are given.
+const TWO_FORMS: &[u8] =
+    b"error: the argument '--json' cannot be used with '--human'\n\nFor more information, try '--help'.\n";
+
+/// The same where `--plan` and `--data` are given.
+const PLAN_WITH_DATA: &[u8] =
+    b"error: the argument '--data' cannot be used with '--plan'\n\nFor more information, try '--help'.\n";
 
 impl Failure {
     /// That of an output stream that failed.
@@ -100,8 +136,11 @@ impl Failure {
             Failure::NotText
             | Failure::Usage(_)
             | Failure::InUseAlone
+            | Failure::TwoForms
+            | Failure::PlanWithData
             | Failure::BadWord(_)
             | Failure::BadFresh
+            | Failure::BadData(_)
             | Failure::BadPath
             | Failure::BadNumber
             | Failure::BadCopy => Status::Usage,
@@ -111,12 +150,14 @@ impl Failure {
             | Failure::Repair(_)
             | Failure::PlanText(_)
             | Failure::Table(_)
+            | Failure::Unfit(_, _)
             | Failure::OtherSize => Status::Refused,
-            Failure::NoText(why) => status_of_text(*why),
+            Failure::NoText(_, why) => status_of_text(*why),
             Failure::NoTable(why) | Failure::Other(why) => status_of(*why),
             Failure::NoSide(_, why) => status_of_side(*why),
             Failure::Opening(why) | Failure::OtherOpening(why) => opening_status(why),
-            Failure::Device | Failure::ClosedPipe => Status::Device,
+            Failure::Fault(_) | Failure::Differs(_) | Failure::Device | Failure::ClosedPipe =>
+                Status::Device,
             Failure::Memory => Status::Memory,
         }
     }
@@ -140,25 +181,29 @@ impl Failure {
             Failure::NotText => err.write_all(NOT_TEXT),
             Failure::Usage(error) => write!(err, "{error}"),
             Failure::InUseAlone => err.write_all(IN_USE_ALONE),
+            Failure::TwoForms => err.write_all(TWO_FORMS),
+            Failure::PlanWithData => err.write_all(PLAN_WITH_DATA),
             Failure::BadWord(word) => writeln!(err, "bad word {word}"),
             Failure::BadFresh => err.write_all(b"bad fresh\n"),
+            Failure::BadData(line) => writeln!(err, "bad data {line}"),
             Failure::BadPath => err.write_all(b"bad path\n"),
             Failure::BadNumber => err.write_all(b"bad number\n"),
             Failure::BadCopy => err.write_all(b"bad copy\n"),
-            Failure::Edit(number) => print_refusal(err, "edit", u64::from(*number)),
-            Failure::Plan(number) => print_refusal(err, "plan", u64::from(*number)),
-            Failure::Check(number) => print_refusal(err, "check", u64::from(*number)),
-            Failure::Repair(number) => print_refusal(err, "repair", u64::from(*number)),
+            Failure::Edit(why) => print_refusal(err, "edit", u64::from(why.number())),
+            Failure::Plan(why) => print_refusal(err, "plan", u64::from(why.number())),
+            Failure::Check(why) => print_refusal(err, "check", u64::from(why.number())),
+            Failure::Repair(why) => print_refusal(err, "repair", u64::from(why.number())),
             Failure::PlanText(line) => print_refusal(err, "plan text", *line),
             Failure::Table(fault) => print_fault(err, *fault),
-            Failure::NoText(why) => print_no_text(err, *why),
+            Failure::NoText(of, why) => print_no_text(err, *of, *why),
+            Failure::Unfit(at, why) => print_unfit(err, *at, *why),
             Failure::OtherSize => err.write_all(b"refused: other size\n"),
             Failure::OtherOpening(why) => print_other_opening(err, why),
             Failure::Other(why) => print_other(err, *why),
             Failure::NoTable(why) => print_no_table(err, *why),
             Failure::NoSide(side, why) => print_no_side(err, *side, *why),
             Failure::Opening(why) => print_opening(err, why),
-            Failure::Device => err.write_all(b"device\n"),
+            Failure::Fault(_) | Failure::Differs(_) | Failure::Device => err.write_all(b"device\n"),
             Failure::ClosedPipe => Ok(()),
             Failure::Memory => err.write_all(b"memory\n"),
         }
@@ -255,15 +300,41 @@ fn print_fault_in<E: Write>(err: &mut E, key: Key, part: u64) -> io::Result<()>
     writeln!(err, "refused: table {key} {part}")
 }
 
-// Why the text of a table isn't read.
-fn print_no_text<E: Write>(err: &mut E, why: NoText) -> io::Result<()>
-    ensures { OnOk result (Appends (E.contents err.old) (E.contents err.new) (no_text_line why)) }
+// Why a text isn't read.
+fn print_no_text<E: Write>(err: &mut E, of: TextOf, why: NoText) -> io::Result<()>
+    ensures { OnOk result (Appends (E.contents err.old) (E.contents err.new) (no_text_line of why)) }
 {
-    err.write_all(match why {
-        NoText::Unreadable => b"table: device\n".as_slice(),
-        NoText::TooLong => b"table: too long\n".as_slice(),
-        NoText::NotUtf8 => b"table: not text\n".as_slice(),
-    })
+    match of {
+        TextOf::Table => err.write_all(match why {
+            NoText::Unreadable => b"table: device\n".as_slice(),
+            NoText::TooLong => b"table: too long\n".as_slice(),
+            NoText::NotUtf8 => b"table: not text\n".as_slice(),
+        }),
+        TextOf::Data => err.write_all(match why {
+            NoText::Unreadable => b"data: device\n".as_slice(),
+            NoText::TooLong => b"data: too long\n".as_slice(),
+            NoText::NotUtf8 => b"data: not text\n".as_slice(),
+        }),
+    }
+}
+
+fn word_of(why: Unfit) -> &'static str
+    ensures { result.now ≡ word_of_reason why }
+{
+    match why {
+        Unfit::Outside => "outside",
+        Unfit::Owned => "owned",
+        Unfit::Table => "table",
+        Unfit::NewTable => "new-table",
+        Unfit::Read => "read",
+    }
+}
+
+// Why a sector isn't carried over.
+fn print_unfit<E: Write>(err: &mut E, at: Lba, why: Unfit) -> io::Result<()>
+    ensures { OnOk result (Appends (E.contents err.old) (E.contents err.new) (unfit_line at.0 why)) }
+{
+    writeln!(err, "refused: data {} {}", word_of(why), at.0)
 }
 
 // What refused it, and the number by which it says why.

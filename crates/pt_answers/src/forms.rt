@@ -1,10 +1,11 @@
 //! Answers in the form that they are asked for in.
 
 ghost use Rattle.pt_sector.specs.Sectors.{IsSectorSize};
-ghost use Rattle.pt_answers.specs.Forms.{InForm, IsFreeJson, IsJson, IsTypes};
+ghost use Rattle.pt_answers.specs.Forms.{InForm, IsFreeJson, IsHuman, IsJson, IsTypes};
 
 use crate::failure::Failure;
 use pt_edit::FreeBlock;
+use pt_human::page_text;
 use pt_layout::Layout;
 use pt_line::Form;
 use pt_report::Reply;
@@ -31,7 +32,17 @@ fn free_json(alloc: Global, blocks: &[FreeBlock]) -> Result<Reply, Failure>
     Ok(Reply::Text(text))
 }
 
-/// An answer on an image with sectors of `B` bytes: a table and free blocks may be shown as JSON, and all else is in lines.
+// The page of an image with sectors of `B` bytes.
+fn page<const B: usize>(alloc: Global, layout: &Layout) -> Result<Reply, Failure>
+    requires { IsSectorSize B }
+    ensures { IsHuman B layout.now result }
+{
+    let text = page_text::<B>(alloc, layout)?;
+    Ok(Reply::Text(text))
+}
+
+/// An answer on an image with sectors of `B` bytes: a table and free blocks may be shown as JSON, a table also as a page for people, and
+/// all else is in lines.
 pub(crate) fn formed<const B: usize>(
     alloc: Global,
     image: &str,
@@ -43,6 +54,7 @@ pub(crate) fn formed<const B: usize>(
 {
     match (form, found) {
         (Form::Json, Ok(Reply::Layout(layout))) => json::<B>(alloc, image, &layout),
+        (Form::Human, Ok(Reply::Layout(layout))) => page::<B>(alloc, &layout),
         (Form::Json, Ok(Reply::Free(blocks))) => free_json(alloc, blocks.as_slice()),
         (_, found) => found,
     }

@@ -1,18 +1,20 @@
 //! What the library's errors come to.
 
 ghost use Rattle.std.specs.Prelude.{◌≡◌};
-ghost use Rattle.pt_answers.specs.Failures.{as_device as device_error, commit_failure, draft_failure, like_failure};
-ghost use Rattle.pt_answers.specs.Failures.{line_failure, repair_failure, set_failure};
+ghost use Rattle.pt_answers.specs.Failures.{as_device as device_error, carry_failure, commit_failure, draft_failure, like_failure};
+ghost use Rattle.pt_answers.specs.Failures.{line_failure, repair_failure, runs_failure, set_failure};
 ghost use Rattle.pt_answers.specs.Failures.{unchecked_failure, unread_failure};
 ghost use Rattle.pt_answers.specs.declared.failure.Failure.TheVariants as failure;
 
 use crate::failure::Failure;
+use pt_carry::{CarryError, RunsError};
 use pt_check::CheckError;
 use pt_disks::{NoDevice, OpenError};
 use pt_drafts::DraftError;
 use pt_layout::{NoTable, VerifyError};
 use pt_line::LineError;
 use pt_plan::{CommitError, LikeError, RepairError};
+use pt_sector::Fault;
 use pt_set::SetError;
 use std::alloc::AllocError;
 
@@ -24,6 +26,8 @@ impl From<LineError> for Failure {
             LineError::NotText => Failure::NotText,
             LineError::Usage(error) => Failure::Usage(error),
             LineError::InUseAlone => Failure::InUseAlone,
+            LineError::TwoForms => Failure::TwoForms,
+            LineError::PlanWithData => Failure::PlanWithData,
             LineError::Memory => Failure::Memory,
         }
     }
@@ -68,7 +72,7 @@ impl From<VerifyError> for Failure {
 
     fn from(error: VerifyError) -> Failure {
         match error {
-            VerifyError::Device(_) => Failure::Device,
+            VerifyError::Device(at) => Failure::Fault(Fault::Read(at)),
             VerifyError::Memory => Failure::Memory,
         }
     }
@@ -87,7 +91,7 @@ impl From<CheckError> for Failure {
 
     fn from(error: CheckError) -> Failure {
         match error {
-            CheckError::Device(_) => Failure::Device,
+            CheckError::Device(fault) => Failure::Fault(fault),
             CheckError::Memory => Failure::Memory,
         }
     }
@@ -99,10 +103,10 @@ impl From<CommitError> for Failure {
     fn from(error: CommitError) -> Failure {
         match error {
             CommitError::NoTable(why) => Failure::NoTable(why),
-            CommitError::Edit(why) => Failure::Edit(why.number()),
-            CommitError::Plan(why) => Failure::Plan(why.number()),
-            CommitError::Check(why) => Failure::Check(why.number()),
-            CommitError::Device(_) => Failure::Device,
+            CommitError::Edit(why) => Failure::Edit(why),
+            CommitError::Plan(why) => Failure::Plan(why),
+            CommitError::Check(why) => Failure::Check(why),
+            CommitError::Device(fault) => Failure::Fault(fault),
             CommitError::Memory => Failure::Memory,
         }
     }
@@ -116,6 +120,31 @@ impl From<LikeError> for Failure {
             LikeError::OtherSize => Failure::OtherSize,
             LikeError::Other(why) => Failure::Other(why),
             LikeError::Disk(error) => Failure::from(error),
+        }
+    }
+}
+
+impl From<CarryError> for Failure {
+    ghost from_gives = { λ error f. f ≡ carry_failure error };
+
+    fn from(error: CarryError) -> Failure {
+        match error {
+            CarryError::NotLike(error) | CarryError::Table(error) => Failure::from(error),
+            CarryError::Refused(at, why) => Failure::Unfit(at, why),
+            CarryError::Unread(at) => Failure::Other(NoTable::Device(at)),
+            CarryError::Device(fault) => Failure::Fault(fault),
+            CarryError::Differs(at) => Failure::Differs(at),
+        }
+    }
+}
+
+impl From<RunsError> for Failure {
+    ghost from_gives = { λ error f. f ≡ runs_failure error };
+
+    fn from(error: RunsError) -> Failure {
+        match error {
+            RunsError::BadLine(line) => Failure::BadData(line),
+            RunsError::Memory => Failure::Memory,
         }
     }
 }
@@ -148,9 +177,9 @@ impl From<RepairError> for Failure {
     fn from(error: RepairError) -> Failure {
         match error {
             RepairError::NoTable(why) => Failure::NoTable(why),
-            RepairError::Device(_) => Failure::Device,
+            RepairError::Device(fault) => Failure::Fault(fault),
             RepairError::Memory => Failure::Memory,
-            refusal => Failure::Repair(refusal.number()),
+            refusal => Failure::Repair(refusal),
         }
     }
 }

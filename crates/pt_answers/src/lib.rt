@@ -4,6 +4,7 @@
 
 mod adopt;
 mod command;
+mod data_file;
 mod edits;
 mod failure;
 mod forms;
@@ -14,21 +15,24 @@ mod plan_file;
 mod plan_texts;
 mod plans;
 mod repair;
+mod sentences;
 mod set;
 mod status;
 mod table_file;
+mod text_file;
 mod views;
 mod words;
 
-pub use adopt::{adopt_disk, plan_adopting};
+pub use adopt::{adopt_disk, carry_disk, plan_adopting};
 pub use command::run;
 pub use edits::{edit_disk, plan_on};
-pub use failure::{Failure, NoText};
+pub use failure::{Failure, NoText, TextOf};
 pub use from_errors::as_device;
 pub use images::{Images, Opening};
 pub use plans::{apply_disk, check_on};
 pub use pt_report::Status;
 pub use repair::repair_disk;
+pub use sentences::{Reader, What, end};
 pub use set::{plan_setting, set_disk};
 pub use status::printed;
 pub use views::{

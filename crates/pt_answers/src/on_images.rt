@@ -4,6 +4,7 @@ ghost use Rattle.std.specs.Prelude.{◌≡◌};
 ghost use Rattle.pt_sector.specs.Sectors.{IsSectorSize};
 ghost use Rattle.pt_apply.specs.Plans.{phases_of};
 ghost use Rattle.pt_disks.specs.declared.open.Access.TheVariants.{Read as Reading};
+ghost use Rattle.pt_answers.specs.Data.{CarriesFrom};
 ghost use Rattle.pt_answers.specs.Images.{OnImage, OnImages};
 ghost use Rattle.pt_answers.specs.OnDisks.{AdoptsFrom, AppliesTo, ChecksOn, EditsDisk, FreesOn, LocatesOn};
 ghost use Rattle.pt_answers.specs.OnDisks.{PlansAdopting, PlansOn, RepairsDisk};
@@ -12,7 +13,7 @@ ghost use Rattle.pt_answers.specs.Runs.{choice_of, writing};
 ghost use Rattle.pt_answers.specs.Sets.{PlansSetting, SetsDisk};
 ghost use Rattle.pt_answers.specs.Wanted.{words_of};
 
-use crate::adopt::{adopt_disk, plan_adopting};
+use crate::adopt::{adopt_disk, carry_disk, plan_adopting};
 use crate::edits::{edit_disk, plan_on};
 use crate::failure::Failure;
 use crate::images::{Images, Opening};
@@ -30,7 +31,7 @@ use pt_layout::Path;
 use pt_line::{LockedBy, PrimaryCopy};
 use pt_plan::Primary;
 use pt_report::Reply;
-use pt_sector::Disk;
+use pt_sector::{Disk, Extent};
 use std::alloc::Global;
 use std::io::Read;
 
@@ -340,7 +341,40 @@ pub(crate) fn take<const B: usize, D: Disk<B> + Drop, T: Read + Drop, I: Images<
     answer
 }
 
-/// The plan for that, as text.
+/// The same with data, which is carried over before.
+pub(crate) fn carry<const B: usize, D: Disk<B> + Drop, T: Read + Drop, I: Images<B, D, T>>(
+    alloc: Global,
+    images: &mut I,
+    image: &str,
+    opening: Opening,
+    other: &str,
+    other_opening: Opening,
+    data: &[Extent],
+    primary: PrimaryCopy,
+    locked_by: LockedBy,
+) -> Result<Reply, Failure>
+    requires { IsSectorSize B }
+    ensures { OnImages image.now opening (writing locked_by) other.now other_opening Reading
+        (CarriesFrom (choice_of primary) D.Disk D.Disk data.now) (I.past images.old) (I.past images.new) result }
+{
+    let mut other = match images.open(other, other_opening, Access::Read) {
+        Ok(other) => other,
+        Err(why) => return Err(Failure::OtherOpening(why)),
+    };
+    let mut disk = match images.open(image, opening, access_for(locked_by)) {
+        Ok(disk) => disk,
+        Err(why) => {
+            images.close(other);
+            return Err(Failure::Opening(why));
+        }
+    };
+    let answer = carry_disk::<B, D, D>(alloc, &mut disk, &mut other, data, primary_of(primary));
+    images.close(disk);
+    images.close(other);
+    answer
+}
+
+/// The plan for the adoption without data, as text.
 pub(crate) fn plan_taking<const B: usize, D: Disk<B> + Drop, T: Read + Drop, I: Images<B, D, T>>(
     alloc: Global,
     images: &mut I,

@@ -1,6 +1,6 @@
 //! The words of an edit, and the fresh GUIDs that they take.
 
-ghost use Rattle.std.specs.Prelude.{◌≡◌, IfOk, IfErr, IfSome, option_map, map, string_bytes};
+ghost use Rattle.std.specs.Prelude.{◌≡◌, IfOk, IfErr, IfSome, option_map, string_bytes};
 ghost use Rattle.clap.specs.Walk.{texts as slice_texts};
 ghost use Rattle.pt_answers.specs.declared.failure.Failure.TheVariants.{Memory};
 ghost use Rattle.pt_answers.specs.Wanted.{AreEdits, AreFresh, AreGiven, IsWanted, guid_in};
@@ -9,6 +9,7 @@ ghost use Rattle.pt_answers.specs.inner.Wanted.{IsBadOr, IsNamed, IsNoFreshOr, I
 use crate::failure::Failure;
 use pt_edit::{Edit, EditError, parse_edit};
 use pt_guid::{Guid, fresh as fresh_guid};
+use pt_line::Texts;
 use std::alloc::Global;
 
 /// How many hexadecimal digits a fresh GUID takes.
@@ -23,8 +24,8 @@ pub struct Wanted {
 
 impl Wanted {
     /// Those of words, and of the text of the GUIDs.
-    pub fn read(alloc: Global, fresh: &Option<String>, words: &[String]) -> Result<Wanted, Failure>
-        ensures { IsWanted (option_map string_bytes fresh.now) (map string_bytes words.now) result }
+    pub fn read(alloc: Global, fresh: &Option<String>, words: &Texts) -> Result<Wanted, Failure>
+        ensures { IsWanted (option_map string_bytes fresh.now) words.now result }
     {
         let guids = guids_of(alloc, fresh)?;
         let edits = edits_of(alloc, words)?;
@@ -95,13 +96,15 @@ fn bad_word(alloc: Global, word: &str) -> Failure
 }
 
 /// The edits of words, or the first word that is none.
-fn edits_of(alloc: Global, words: &[String]) -> Result<Vec<Edit>, Failure>
-    ensures ok { IfOk result (λ edits. AreEdits (map string_bytes words.now) edits.items) }
-    ensures err { IfErr result (IsBadOr (map string_bytes words.now)) }
+fn edits_of(alloc: Global, words: &Texts) -> Result<Vec<Edit>, Failure>
+    ensures ok { IfOk result (λ edits. AreEdits words.now edits.items) }
+    ensures err { IfErr result (IsBadOr words.now) }
 {
-    let mut edits = Vec::new(alloc);
+    let Ok(mut edits) = Vec::with_capacity(alloc, words.len()) else {
+        return Err(Failure::Memory);
+    };
     for k in 0..words.len() {
-        let word = words[k].as_str();
+        let word = words.get(k);
         let edit = match parse_edit(alloc, word) {
             Ok(edit) => edit,
             Err(why) => return Err(unread(alloc, why, word)),
@@ -115,13 +118,15 @@ fn edits_of(alloc: Global, words: &[String]) -> Result<Vec<Edit>, Failure>
 }
 
 /// The texts of words, as [`run`](crate::run) takes them.
-pub fn texts_of<'a>(alloc: Global, words: &'a [String]) -> Result<Vec<&'a str>, Failure>
-    ensures texts { IfOk result (λ texts. slice_texts texts.items ≡ map string_bytes words.now) }
+pub fn texts_of<'a>(alloc: Global, words: &'a Texts) -> Result<Vec<&'a str>, Failure>
+    ensures texts { IfOk result (λ texts. slice_texts texts.items ≡ words.now) }
     ensures memory { IfErr result (λ why. why ≡ Memory) }
 {
-    let mut texts = Vec::new(alloc);
-    for word in words {
-        if texts.push(word.as_str()).is_err() {
+    let Ok(mut texts) = Vec::with_capacity(alloc, words.len()) else {
+        return Err(Failure::Memory);
+    };
+    for k in 0..words.len() {
+        if texts.push(words.get(k)).is_err() {
             return Err(Failure::Memory);
         }
     }

@@ -19,7 +19,7 @@ use Rattle.pt_line.specs.Lines.{IsJob, IsLineOf, IsSize, IsUsage, MeansAt}
 use Rattle.pt_line.specs.inner.Lines.{IsJobOrEmpty, IsLineOrEmpty, IsSizeOrLess, IsUnknown, HasNoJob, MeansJob, ReadsAs, Tells}
 use Rattle.pt_line.specs.declared.line.Line.{Line}
 use Rattle.pt_line.specs.declared.line.LineError.{LineError}
-use Rattle.pt_line.specs.declared.line.LineError.TheVariants.{NotText, Usage, InUseAlone, Memory}
+use Rattle.pt_line.specs.declared.line.LineError.TheVariants.{NotText, Usage, InUseAlone, TwoForms, PlanWithData, Memory}
 use Rattle.pt_line.proofs.ByCommand.{adopt_job, apply_job, check_job, edit_job, free_job, locate_job, plan_job, repair_job, show_job, sized}
 use Rattle.pt_line.proofs.ByCommand.{set_job, types_job, verify_job}
 use Rattle.pt_line.proofs.Rows.{Each}
@@ -217,6 +217,8 @@ module _ (sizes : Bor (List (Bor Text))) (are : texts sizes.now ≡ codes "512" 
     )
     by_error e (Err NotText) kind tells = absurd tells
     by_error e (Err InUseAlone) kind tells = absurd tells
+    by_error e (Err TwoForms) kind tells = absurd tells
+    by_error e (Err PlanWithData) kind tells = absurd tells
     by_error e (Err Memory) kind tells = tt
     by_error e (Err (Usage told)) (inl memory) tells = absurd (tells.1.2 memory)
     by_error e (Err (Usage told)) (inr among) tells =
@@ -236,8 +238,10 @@ module _ (sizes : Bor (List (Bor Text))) (are : texts sizes.now ≡ codes "512" 
         go (Ok line) met m =
             let h = subst (λ (o : Option (Text × List Row)). IsLineOrEmpty o line) met.is m in
             let read = met.of.reads met.rows met.fair line h.0 h.1 in
-            inr (none, subst (λ (o : Option (Text × List Row)). IsLineOf o line) (sym met.is) (read.0, read.1, h.2))
+            inr (none, subst (λ (o : Option (Text × List Row)). IsLineOf o line) (sym met.is) (read.0, read.1, h.2, h.3, h.4))
         go (Err InUseAlone) met m = (none, m)
+        go (Err TwoForms) met m = (none, m)
+        go (Err PlanWithData) met m = (none, m)
         go (Err NotText) met m = absurd (subst (λ (o : Option (Text × List Row)). MeansJob o (Err NotText)) met.is m)
         go (Err Memory) met m = tt
         go (Err (Usage told)) met m = absurd (subst (λ (o : Option (Text × List Row)). MeansJob o (Err (Usage told))) met.is m)

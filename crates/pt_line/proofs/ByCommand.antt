@@ -143,7 +143,7 @@ module _ (sizes : Bor (List (Bor Text))) (rows : List Row) where
   pub adopt_job : IsFair MayBe (built_rules (writing (other_rules sizes))) rows → (j : Job) → IsJobOrEmpty (codes "adopt") rows j
       → IsJob (codes "adopt") rows j
   adopt_job fair (job.Help t) h = absurd h
-  adopt_job fair (job.Adopt image other medium adoption primary locked_by) h = (
+  adopt_job fair (job.Adopt image other medium file adoption primary locked_by) h = (
     h.0,
     text_given rows fair.full (codes "IMAGE") _ (fair.given.0 refl) h.1,
     text_given rows fair.full (codes "OTHER") _ (fair.given.1.0 refl) h.2,
@@ -151,6 +151,7 @@ module _ (sizes : Bor (List (Bor Text))) (rows : List Row) where
     h.4,
     h.5,
     h.6,
+    h.7,
   )
   adopt_job fair job.Types h = absurd (true≢false (ap (bytes_eq (codes "adopt")) h))
   adopt_job fair _ h = absurd (true≢false (ap (bytes_eq (codes "adopt")) h.0))

@@ -1,6 +1,7 @@
 pub mod Alone
 pub mod Asked
 pub mod ByCommand
+pub mod Pieces
 pub mod Rows
 pub mod Sound
 pub mod Taken

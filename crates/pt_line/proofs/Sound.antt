@@ -8,7 +8,7 @@ use Rattle.std.proofs.lemmas.Slice.Eq.{bytes_eq-Decides}
 use Rattle.clap.specs.Simple.{filled, filled_from, help_rule}
 use Rattle.clap.specs.Walk.{Rule, Text, texts}
 use Rattle.clap.proofs.WalkLemmas.{list_any-map}
-use Rattle.pt_line.specs.CommandLine.{by_table, device, free_rules, image_rules, in_use, json, keep_primary, mend_rules, no_lock}
+use Rattle.pt_line.specs.CommandLine.{by_table, device, free_rules, human, image_rules, in_use, json, keep_primary, mend_rules, no_lock}
 use Rattle.pt_line.specs.CommandLine.{other_device, other_rules, place_rules, plan_only, plan_rules, sector_size, show_rules}
 use Rattle.pt_line.specs.CommandLine.{table_rules, word_rules, writing}
 use Rattle.pt_line.proofs.Rows.{Each, IsSound}
@@ -32,6 +32,9 @@ other_device_sound = ((omega arith, λ v e is. absurd (true≢false (sym is))), 
 
 no_lock_sound : IsSound MayBe (filled no_lock)
 no_lock_sound = ((omega arith, λ v e is. absurd (true≢false (sym is))), ((λ is. absurd (true≢false (sym is))), tt))
+
+human_sound : IsSound MayBe (filled human)
+human_sound = ((omega arith, λ v e is. absurd (true≢false (sym is))), ((λ is. absurd (true≢false (sym is))), tt))
 
 json_sound : IsSound MayBe (filled json)
 json_sound = ((omega arith, λ v e is. absurd (true≢false (sym is))), ((λ is. absurd (true≢false (sym is))), tt))
@@ -82,7 +85,10 @@ module _ (sizes : Bor (List (Bor Text))) (are : texts sizes.now ≡ codes "512" 
         (omega arith, λ v e is. absurd (true≢false (sym is))),
         tt,
       ),
-      (((omega arith, λ v e is. absurd (true≢false (sym is))), tt), (json_sound, (device_sound, (sizes_sound, ((tt, tt), tt))))),
+      (
+        ((omega arith, λ v e is. absurd (true≢false (sym is))), tt),
+        (json_sound, (human_sound, (device_sound, (sizes_sound, ((tt, tt), tt))))),
+      ),
     ),
   )
 
@@ -182,26 +188,16 @@ module _ (sizes : Bor (List (Bor Text))) (are : texts sizes.now ≡ codes "512" 
   other_writing_sound = (
     ((omega arith, λ v e is. absurd (true≢false (sym is))), tt),
     (
+      ((omega arith, λ v e is. absurd (true≢false (sym is))), tt),
       (
+        ((omega arith, λ v e is. absurd (true≢false (sym is))), tt),
         (
-          omega arith,
-          λ v e is. absurd (true≢false (sym
-              is)),
-        ),
-        tt,
-      ),
-      (
-        plan_only_sound,
-        (
-          by_table_sound,
+          plan_only_sound,
           (
-            other_device_sound,
+            by_table_sound,
             (
-              device_sound,
-              (
-                sizes_sound,
-                (in_use_sound, (no_lock_sound, ((tt, tt), tt))),
-              ),
+              other_device_sound,
+              (device_sound, (sizes_sound, (in_use_sound, (no_lock_sound, ((tt, tt), tt))))),
             ),
           ),
         ),

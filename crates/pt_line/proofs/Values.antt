@@ -1,6 +1,6 @@
 -- What the getters of matches give, by their rows.
 use Rattle.std.proofs.Common.{◌≡◌, ◌∙◌, ◌<◌, ◌+◌, ℕ, zero, suc, arith, refl, ap, sym, codes, length, take, List, [], ◌∷◌, ◌++◌, Option}
-use Rattle.std.proofs.Common.{Some, option_map}
+use Rattle.std.proofs.Common.{None, Some, option_map}
 use Rattle.std.specs.Prelude.{is_some, slice_index_or, unwrap_or}
 use Rattle.std.specs.Borrow.{Bor}
 use Rattle.clap.specs.Walk.{Row, Text, all_of, first_of, rows_of, texts}
@@ -14,6 +14,10 @@ use Rattle.clap.proofs.WalkLemmas.{first_value-rows, raw_values-rows}
 pub value_is : (f : Found) (id : Text) (o : Option (Bor Text)) → option_map (λ (s : Bor Text). s.now) o ≡ first_value f id
     → option_map (λ (s : Bor Text). s.now) o ≡ first_of id (rows_of f)
 value_is f id o e = e ∙ first_value-rows f id
+
+pub some_same : (o : Option (Bor Text)) → is_some o ≡ is_some (option_map (λ (s : Bor Text). s.now) o)
+some_same None = refl
+some_same (Some s) = refl
 
 pub values_are : (f : Found) (id : Text) (o : Option (Bor (List (Bor Text))))
     → option_map (λ (s : Bor (List (Bor Text))). texts s.now) o ≡ option_map raw_values (matched_of f id)

@@ -44,6 +44,14 @@ copy = record (new_rule (codes "copy")) {
   action = Some Set;
 }
 
+-- `--data FILE`
+abbrev pub data_file : Rule
+data_file = record (new_rule (codes "data")) {
+  long = Some (codes "data");
+  value_names = 1;
+  action = Some Set;
+}
+
 -- `--no-lock`, a flag
 abbrev pub no_lock : Rule
 no_lock = record (new_rule (codes "no-lock")) { long = Some (codes "no-lock"); action = Some SetTrue }
@@ -62,6 +70,10 @@ by_table = record (new_rule (codes "by-table")) { long = Some (codes "by-table")
 -- `--json`, a flag
 abbrev pub json : Rule
 json = record (new_rule (codes "json")) { long = Some (codes "json"); action = Some SetTrue }
+
+-- `--human`, a flag
+abbrev pub human : Rule
+human = record (new_rule (codes "human")) { long = Some (codes "human"); action = Some SetTrue }
 
 -- `--device`, `--in-use` and `--other-device`, flags
 abbrev pub device : Rule
@@ -86,7 +98,7 @@ abbrev pub on_disk : Bor (List (Bor Text)) → List Rule
 on_disk sizes = device ∷ sector_size sizes ∷ []
 
 -- the arguments of a command on an image alone; on one of which something may be printed as JSON; on one that may also be shown after a
--- plan or by one copy; on a place in it; on words; and on a plan's file
+-- plan, by one copy, or for people; on a place in it; on words; and on a plan's file
 abbrev pub image_rules : Bor (List (Bor Text)) → List Rule
 image_rules sizes = needed (codes "IMAGE") ∷ on_disk sizes
 
@@ -94,7 +106,7 @@ abbrev pub free_rules : Bor (List (Bor Text)) → List Rule
 free_rules sizes = needed (codes "IMAGE") ∷ json ∷ on_disk sizes
 
 abbrev pub show_rules : Bor (List (Bor Text)) → List Rule
-show_rules sizes = needed (codes "IMAGE") ∷ after ∷ copy ∷ json ∷ on_disk sizes
+show_rules sizes = needed (codes "IMAGE") ∷ after ∷ copy ∷ json ∷ human ∷ on_disk sizes
 
 abbrev pub place_rules : Bor (List (Bor Text)) → List Rule
 place_rules sizes = needed (codes "IMAGE") ∷ needed (codes "PATH") ∷ needed (codes "K") ∷ on_disk sizes
@@ -109,9 +121,10 @@ plan_rules sizes = needed (codes "IMAGE") ∷ needed (codes "PLANFILE") ∷ on_d
 abbrev pub mend_rules : Bor (List (Bor Text)) → List Rule
 mend_rules sizes = needed (codes "IMAGE") ∷ keep_primary ∷ on_disk sizes
 
--- on another image besides, with its plan alone or not
+-- on another image besides, with data of it or not, with its plan alone or not
 abbrev pub other_rules : Bor (List (Bor Text)) → List Rule
-other_rules sizes = needed (codes "IMAGE") ∷ needed (codes "OTHER") ∷ plan_only ∷ by_table ∷ other_device ∷ on_disk sizes
+other_rules sizes =
+    needed (codes "IMAGE") ∷ needed (codes "OTHER") ∷ data_file ∷ plan_only ∷ by_table ∷ other_device ∷ on_disk sizes
 
 -- on a table's text besides, with its plan alone or not
 abbrev pub table_rules : Bor (List (Bor Text)) → List Rule

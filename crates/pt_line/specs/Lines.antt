@@ -1,5 +1,6 @@
 -- What a command line asks for, by `clap`'s meaning of its words at the command.
-use Rattle.std.specs.Prelude.{◌≡◌, ◌≢◌, ◌⊎◌, ℕ, List, [], ◌∷◌, map, Option, Some, None, Result, Ok, Err, string_bytes, codes, option_map}
+use Rattle.std.specs.Prelude.{◌≡◌, ◌≢◌, ◌⊎◌, ℕ, List, [], ◌∷◌, Option, Some, None, Result, Ok, Err, string_bytes, codes, option_map}
+use Rattle.std.specs.Prelude.{IsSome}
 use Rattle.std.specs.Borrow.{Bor}
 use Rattle.clap.specs.Walk.{texts}
 use Rattle.clap.specs.Words.{App, IsAmong, Kinds, Row, Text, all_of, fault_of, first_of, kind_of, subcommand_of}
@@ -16,7 +17,7 @@ use Rattle.pt_line.specs.declared.line.Job.{Job}
 use Rattle.pt_line.specs.declared.line.Job.TheVariants as job
 use Rattle.pt_line.specs.declared.line.Line.{Line}
 use Rattle.pt_line.specs.declared.line.LineError.{LineError}
-use Rattle.pt_line.specs.declared.line.LineError.TheVariants.{NotText, Usage, InUseAlone, Memory}
+use Rattle.pt_line.specs.declared.line.LineError.TheVariants.{NotText, Usage, InUseAlone, TwoForms, PlanWithData, Memory}
 use Rattle.pt_line.specs.declared.line.LockedBy.{LockedBy}
 use Rattle.pt_line.specs.declared.line.LockedBy.TheVariants.{Ptab, Caller}
 use Rattle.pt_line.specs.declared.line.Medium.{Medium}
@@ -42,10 +43,19 @@ abbrev pub IsAdoption : List Row → Adoption → Type 0
 IsAdoption rows Planned = IsGiven rows (codes "plan")
 IsAdoption rows Written = ¬ IsGiven rows (codes "plan")
 
--- what is shown is printed as JSON where the flag `--json` was given
+-- what is shown is printed as JSON where the flag `--json` was given, and as a page for people where `--human` was
 abbrev pub IsForm : List Row → Form → Type 0
 IsForm rows form.Json = IsGiven rows (codes "json")
-IsForm rows form.Lines = ¬ IsGiven rows (codes "json")
+IsForm rows form.Human = IsGiven rows (codes "human")
+IsForm rows form.Lines = (¬ IsGiven rows (codes "json")) × (¬ IsGiven rows (codes "human"))
+
+-- both were given
+abbrev pub HasTwoForms : List Row → Type 0
+HasTwoForms rows = IsGiven rows (codes "json") × IsGiven rows (codes "human")
+
+-- the plan alone is wanted, and `--data` was given
+abbrev pub PlansWithData : List Row → Type 0
+PlansWithData rows = IsGiven rows (codes "plan") × IsSome (first_of (codes "data") rows)
 
 -- the primary copy is kept where the flag `--keep-primary` was given
 abbrev pub IsKeeping : List Row → PrimaryCopy → Type 0
@@ -84,10 +94,10 @@ IsJobBy one all name rows (job.Free image form) =
     (name ≡ codes "free") × one (codes "IMAGE") (string_bytes image) × IsForm rows form
 IsJobBy one all name rows job.Types = (name ≡ codes "types")
 IsJobBy one all name rows (job.Edit image fresh list primary locked_by) = (name ≡ codes "edit") × one (codes "IMAGE") (string_bytes image)
-    × (option_map string_bytes fresh ≡ first_of (codes "fresh") rows) × all (codes "WORD") (map string_bytes list.items)
+    × (option_map string_bytes fresh ≡ first_of (codes "fresh") rows) × all (codes "WORD") list
     × IsKeeping rows primary × IsLockedBy rows locked_by
 IsJobBy one all name rows (job.Plan image fresh list primary) = (name ≡ codes "plan") × one (codes "IMAGE") (string_bytes image)
-    × (option_map string_bytes fresh ≡ first_of (codes "fresh") rows) × all (codes "WORD") (map string_bytes list.items)
+    × (option_map string_bytes fresh ≡ first_of (codes "fresh") rows) × all (codes "WORD") list
     × IsKeeping rows primary
 IsJobBy one all name rows (job.Check image file) =
     (name ≡ codes "check") × one (codes "IMAGE") (string_bytes image) × one (codes "PLANFILE") (string_bytes file)
@@ -95,9 +105,10 @@ IsJobBy one all name rows (job.Apply image file locked_by) = (name ≡ codes "ap
     × one (codes "PLANFILE") (string_bytes file) × IsLockedBy rows locked_by
 IsJobBy one all name rows (job.Repair image primary locked_by) = (name ≡ codes "repair") × one (codes "IMAGE") (string_bytes image)
     × IsKeeping rows primary × IsLockedBy rows locked_by
-IsJobBy one all name rows (job.Adopt image other medium adoption primary locked_by) = (name ≡ codes "adopt")
+IsJobBy one all name rows (job.Adopt image other medium file adoption primary locked_by) = (name ≡ codes "adopt")
     × one (codes "IMAGE") (string_bytes image) × one (codes "OTHER") (string_bytes other) × IsMedium rows (codes "other-device") medium
-    × IsAdoption rows adoption × IsKeptUnless rows primary × IsLockedBy rows locked_by
+    × (option_map string_bytes file ≡ first_of (codes "data") rows) × IsAdoption rows adoption × IsKeptUnless rows primary
+    × IsLockedBy rows locked_by
 IsJobBy one all name rows (job.Set image table fresh adoption primary locked_by) = (name ≡ codes "set")
     × one (codes "IMAGE") (string_bytes image) × one (codes "TABLE") (string_bytes table)
     × (option_map string_bytes fresh ≡ first_of (codes "fresh") rows) × IsAdoption rows adoption × IsKeptUnless rows primary
@@ -119,11 +130,20 @@ IsOpenedAs rows line = IsMedium rows (codes "device") line.medium × IsInUse row
 
 abbrev pub IsLineOf : Option (Text × List Row) → Line → Type 0
 IsLineOf None line = ⊥
-IsLineOf (Some p) line = IsJob p.0 p.1 line.job × IsSize p.1 line.size × IsOpenedAs p.1 line
+IsLineOf (Some p) line =
+    IsJob p.0 p.1 line.job × IsSize p.1 line.size × IsOpenedAs p.1 line × (¬ HasTwoForms p.1) × (¬ PlansWithData p.1)
 
 abbrev pub IsAloneIn : Option (Text × List Row) → Type 0
 IsAloneIn None = ⊥
 IsAloneIn (Some p) = IsAlone p.1
+
+abbrev pub HasTwoFormsIn : Option (Text × List Row) → Type 0
+HasTwoFormsIn None = ⊥
+HasTwoFormsIn (Some p) = HasTwoForms p.1
+
+abbrev pub PlansWithDataIn : Option (Text × List Row) → Type 0
+PlansWithDataIn None = ⊥
+PlansWithDataIn (Some p) = PlansWithData p.1
 
 -- ---- what is reported of `clap`'s error
 abbrev pub IsHelp : Job → Type 0
@@ -142,12 +162,15 @@ IsUsage kinds k = IsAmong k kinds × IsMistake k
 
 -- at a command, these being all the words. A call for help, or for the version, gives its text; words without fault give the job of their
 -- subcommand, by the values of its arguments; `Usage` comes only for words with a fault, and has an error of its kind; words
--- without fault that give `--in-use` and no `--device` are told so. Memory may always be refused. Words are texts
+-- without fault that give `--in-use` and no `--device`, both forms, or `--plan` with `--data`, are told so. Memory may always be refused.
+-- Words are texts
 abbrev pub MeansAt : App → List Text → Result Line LineError → Type 0
 MeansAt app words (Ok line) = (IsHelp line.job × (IsAmong DisplayHelp (fault_of app words) ⊎ IsAmong DisplayVersion (fault_of app words)))
     ⊎ ((fault_of app words ≡ []) × IsLineOf (subcommand_of app words) line)
 MeansAt app words (Err NotText) = ⊥
 MeansAt app words (Err InUseAlone) = (fault_of app words ≡ []) × IsAloneIn (subcommand_of app words)
+MeansAt app words (Err TwoForms) = (fault_of app words ≡ []) × HasTwoFormsIn (subcommand_of app words)
+MeansAt app words (Err PlanWithData) = (fault_of app words ≡ []) × PlansWithDataIn (subcommand_of app words)
 MeansAt app words (Err Memory) = Unit {0}
 MeansAt app words (Err (Usage e)) = IsUsage (fault_of app words) (kind_of e)
 
@@ -162,4 +185,6 @@ abbrev pub line_sentence : LineError → Option (List ℕ)
 line_sentence NotText = Some (codes "an argument isn't UTF-8")
 line_sentence (Usage e) = None
 line_sentence InUseAlone = Some (codes "the argument '--in-use' needs '--device'")
+line_sentence TwoForms = Some (codes "the argument '--json' cannot be used with '--human'")
+line_sentence PlanWithData = Some (codes "the argument '--data' cannot be used with '--plan'")
 line_sentence Memory = Some (codes "memory")

@@ -184,7 +184,7 @@ Exit status: 0 done, 1 no, 2 usage, 3 refused, 4 no table, 5 failed, 6 memory.",
 Exit status:
   0  done, or yes
   1  the answer is no
-  2  usage, or a word, a number, HEX or TABLE that can't be read
+  2  usage, or a word, a number, HEX, TABLE or FILE that can't be read
   3  refused: nothing was written
   4  the image denotes no table
   5  device: the image or PLANFILE can't be opened or read, the image can't be
@@ -199,8 +199,7 @@ pub const SHOW: Texts = page!(
 The first line is `gpt SECTORS FIRST LAST DISKGUID` (the usable sectors) or
 `mbr SECTORS`. Then come the partitions by number, a slice before its letters:
   GPT    NUM FIRST LAST TYPE ATTRIBUTES UNIQUE [NAME]
-  MBR    NUM FIRST LAST TYPE BOOT
-  label  NUM.LETTER FIRST LAST FSTYPE
+  MBR    NUM FIRST LAST TYPE BOOT, and of labels NUM.LETTER FIRST LAST FSTYPE
 Sectors are the disk's own; with --after the plan's, or `no ..` as `check` says.
 
 ",
@@ -376,16 +375,39 @@ pub const ADOPT: Texts = page!(
     "Gives the image the table of another one, as one change",
     "\
 OTHER's table becomes the image's: a stop at any moment leaves the old table or
-OTHER's. Both have as many sectors. Boot code, an MBR's disk signature, hybrid
-records and data aren't taken. Device: ptab-run --device DEV ptab adopt @ OTHER
+OTHER's. For a device: ptab-run --device DEV ptab adopt @ OTHER
+
+",
+    long "\
+Both have as many sectors. Boot code, an MBR's disk signature and hybrid records
+aren't taken, and of the data only what --data names: FILE has a line FIRST LAST
+for each run of sectors, as `ptab free` prints blocks. These are copied from
+OTHER, flushed and compared before the table's first write, so a partition comes
+with its data or not at all. None of them may be in a partition of the image, or
+in a table, the old one or OTHER's. FILE has 8 MiB at most; -: standard input.
 
 ",
     "\
 Exit status: 0 done, 2 usage, 3 refused, 4 OTHER has no table, 5 failed: the old
-table or OTHER's is there, 6 no memory. After 2, 3, 4, 6 nothing was written.",
+table or OTHER's is there, 6 no memory. After 2, 3, 4 nothing was written.",
     refused
     "
-  refused: other size     the other disk has another number of sectors"
+  refused: other size     the other disk has another number of sectors
+  refused: data outside SECTOR
+                          data of sector SECTOR isn't carried: the disk ends
+                          before it
+  refused: data owned SECTOR
+                          data of sector SECTOR isn't carried: a partition of
+                          the disk owns it
+  refused: data table SECTOR
+                          data of sector SECTOR isn't carried: it is one of the
+                          disk's tables
+  refused: data new-table SECTOR
+                          data of sector SECTOR isn't carried: it is one of the
+                          other disk's tables
+  refused: data read SECTOR
+                          data of sector SECTOR isn't carried: the disk's table
+                          is read from it"
     plans locked in_use
     "
 
@@ -394,7 +416,13 @@ Of OTHER, status 4, 5 and 6:
                           `show` prints for it
   other: device           OTHER can't be opened or read, or isn't a plain file
   other: memory           there was not enough memory to read OTHER's table, and
-                          nothing was written"
+                          nothing was written
+
+Of FILE, status 2 and 5:
+  bad data LINE           line LINE isn't a run's, FIRST LAST
+  data: too long          FILE has more than 8 MiB
+  data: not text          FILE isn't UTF-8
+  data: device            FILE can't be opened or read"
     devices
 );
 

@@ -1,14 +1,16 @@
 //! What `clap`'s matches come to: the job of a subcommand, by the values of its arguments.
 
-ghost use Rattle.std.specs.Prelude.{◌≡◌, ◌↔◌, Some, IfOk, IsTrue, codes, map, string_bytes};
+ghost use Rattle.std.specs.Prelude.{◌≡◌, ◌↔◌, Some, IfOk, IsSome, IsTrue, codes, string_bytes};
 ghost use Rattle.clap.specs.Walk.{texts as slice_texts};
-ghost use Rattle.clap.specs.Words.{found_of, rows_of, subcommand_rows_of};
+ghost use Rattle.clap.specs.Words.{first_of, found_of, rows_of, subcommand_rows_of};
 ghost use Rattle.pt_line.specs.inner.Lines.{GivesIf, HasNoJob, IfJob, IsSizeNamed, IsSizeOrLess, IsUnknown, MeansJob, text_in, texts_in};
-ghost use Rattle.pt_line.specs.Lines.{IsAdoption, IsForm, IsGiven, IsInUse, IsKeeping, IsKeptUnless, IsLockedBy, IsMedium};
+ghost use Rattle.pt_line.specs.Lines.{HasTwoForms, IsAdoption, IsForm, IsGiven, IsInUse, IsKeeping, IsKeptUnless};
+ghost use Rattle.pt_line.specs.Lines.{IsLockedBy, IsMedium, PlansWithData};
 
 use crate::line::{
     Adoption, Form, InUse, Job, Line, LineError, LockedBy, Medium, PrimaryCopy, SectorSize,
 };
+use crate::texts::Texts;
 use clap::ArgMatches;
 use std::alloc::{AllocError, Global};
 
@@ -21,22 +23,22 @@ fn text_of(alloc: Global, matches: &ArgMatches<'_>, id: &str) -> Result<String, 
     }
 }
 
-fn copied(alloc: Global, texts: &[&str]) -> Result<Vec<String>, AllocError>
-    ensures { IfOk result (λ list. map string_bytes list.items ≡ slice_texts texts.now) }
+fn copied(alloc: Global, texts: &[&str]) -> Result<Texts, AllocError>
+    ensures { IfOk result (λ list. list ≡ slice_texts texts.now) }
 {
-    let mut list = Vec::new(alloc);
+    let mut list = Texts::new(alloc);
     for text in texts {
-        list.push(String::from_str(alloc, text)?)?;
+        list.push(text)?;
     }
     Ok(list)
 }
 
-fn texts_of(alloc: Global, matches: &ArgMatches<'_>, id: &str) -> Result<Vec<String>, AllocError>
-    ensures { IfOk result (λ list. map string_bytes list.items ≡ texts_in (rows_of (found_of matches.now)) id.now) }
+fn texts_of(alloc: Global, matches: &ArgMatches<'_>, id: &str) -> Result<Texts, AllocError>
+    ensures { IfOk result (λ list. list ≡ texts_in (rows_of (found_of matches.now)) id.now) }
 {
     match matches.get_strs(id) {
         Some(texts) => copied(alloc, texts),
-        None => Ok(Vec::new(alloc)),
+        None => Ok(Texts::new(alloc)),
     }
 }
 
@@ -77,6 +79,13 @@ fn is_given(matches: &ArgMatches<'_>, id: &str) -> bool
     flag == "true"
 }
 
+/// Whether an option is given.
+fn has_value(matches: &ArgMatches<'_>, id: &str) -> bool
+    ensures { IsTrue result ↔ IsSome (first_of id.now (rows_of (found_of matches.now))) }
+{
+    matches.get_str(id).is_some()
+}
+
 fn locked_by(matches: &ArgMatches<'_>) -> LockedBy
     ensures { IsLockedBy (rows_of (found_of matches.now)) result }
 {
@@ -112,9 +121,17 @@ fn form_of(matches: &ArgMatches<'_>) -> Form
 {
     if is_given(matches, "json") {
         Form::Json
+    } else if is_given(matches, "human") {
+        Form::Human
     } else {
         Form::Lines
     }
+}
+
+fn has_two_forms(matches: &ArgMatches<'_>) -> bool
+    ensures { IsTrue result ↔ HasTwoForms (rows_of (found_of matches.now)) }
+{
+    is_given(matches, "json") && is_given(matches, "human")
 }
 
 fn adoption_of(matches: &ArgMatches<'_>) -> Adoption
@@ -125,6 +142,12 @@ fn adoption_of(matches: &ArgMatches<'_>) -> Adoption
     } else {
         Adoption::Written
     }
+}
+
+fn plans_with_data(matches: &ArgMatches<'_>) -> bool
+    ensures { IsTrue result ↔ PlansWithData (rows_of (found_of matches.now)) }
+{
+    is_given(matches, "plan") && has_value(matches, "data")
 }
 
 fn keeping_of(matches: &ArgMatches<'_>) -> PrimaryCopy
@@ -148,12 +171,9 @@ fn kept_unless(matches: &ArgMatches<'_>) -> PrimaryCopy
 }
 
 /// The fresh GUIDs of an edit, and its words.
-fn edit_of(
-    alloc: Global,
-    matches: &ArgMatches<'_>,
-) -> Result<(Option<String>, Vec<String>), AllocError>
+fn edit_of(alloc: Global, matches: &ArgMatches<'_>) -> Result<(Option<String>, Texts), AllocError>
     ensures { IfOk result (λ p. GivesIf (rows_of (found_of matches.now)) (codes "fresh") p.0
-        × (map string_bytes p.1.items ≡ texts_in (rows_of (found_of matches.now)) (codes "WORD"))) }
+        × (p.1 ≡ texts_in (rows_of (found_of matches.now)) (codes "WORD"))) }
 {
     let fresh = value_of(alloc, matches, "fresh")?;
     Ok((fresh, texts_of(alloc, matches, "WORD")?))
@@ -217,6 +237,7 @@ fn adopt_job(alloc: Global, inner: &ArgMatches<'_>, image: String) -> Result<Job
         image,
         other: text_of(alloc, inner, "OTHER")?,
         other_medium: medium_of(inner, "other-device"),
+        data: value_of(alloc, inner, "data")?,
         adoption: adoption_of(inner),
         primary: kept_unless(inner),
         locked_by: locked_by(inner),
@@ -282,6 +303,12 @@ fn line_in(alloc: Global, name: &str, inner: &ArgMatches<'_>) -> Result<Line, Li
     let in_use = in_use_of(inner);
     if let (InUse::Allowed, Medium::File) = (in_use, medium) {
         return Err(LineError::InUseAlone);
+    }
+    if has_two_forms(inner) {
+        return Err(LineError::TwoForms);
+    }
+    if plans_with_data(inner) {
+        return Err(LineError::PlanWithData);
     }
     Ok(Line {
         job: job_of(alloc, name, inner)?,

@@ -9,6 +9,7 @@ ghost use Rattle.pt_line.specs.Lines.{Means, line_sentence};
 
 use crate::jobs::line_of;
 use crate::pages::{SIZES, command};
+use crate::texts::Texts;
 use clap::ArgMatches;
 use clap::error::ErrorKind;
 use std::alloc::{AllocError, Global};
@@ -38,6 +39,8 @@ pub enum Form {
     Lines,
     /// As JSON, by `--json`.
     Json,
+    /// As a page for people, by `--human`.
+    Human,
 }
 
 /// What an adoption comes to, of another image's table or of a text's.
@@ -116,14 +119,14 @@ pub enum Job {
     Edit {
         image: String,
         fresh: Option<String>,
-        words: Vec<String>,
+        words: Texts,
         primary: PrimaryCopy,
         locked_by: LockedBy,
     },
     Plan {
         image: String,
         fresh: Option<String>,
-        words: Vec<String>,
+        words: Texts,
         primary: PrimaryCopy,
     },
     Check {
@@ -144,6 +147,8 @@ pub enum Job {
         image: String,
         other: String,
         other_medium: Medium,
+        /// The file of the runs of sectors that are carried over too. `-` is standard input.
+        data: Option<String>,
         adoption: Adoption,
         primary: PrimaryCopy,
         locked_by: LockedBy,
@@ -166,8 +171,12 @@ pub enum LineError {
     NotText,
     /// The words are not those of a command, as `clap` says.
     Usage(clap::Error),
-    /// `--in-use` is said of no device.
+    /// `--in-use` is given without `--device`.
     InUseAlone,
+    /// Both `--json` and `--human` are given.
+    TwoForms,
+    /// Both `--plan` and `--data` are given.
+    PlanWithData,
     /// Memory was refused.
     Memory,
 }
@@ -180,6 +189,12 @@ impl fmt::Display for LineError {
             LineError::NotText => f.write_str("an argument isn't UTF-8"),
             LineError::Usage(error) => fmt::Display::fmt(error, f),
             LineError::InUseAlone => f.write_str("the argument '--in-use' needs '--device'"),
+            LineError::TwoForms => {
+                f.write_str("the argument '--json' cannot be used with '--human'")
+            }
+            LineError::PlanWithData => {
+                f.write_str("the argument '--data' cannot be used with '--plan'")
+            }
             LineError::Memory => f.write_str("memory"),
         }
     }

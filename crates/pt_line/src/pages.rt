@@ -122,6 +122,13 @@ fn copy<'a>(alloc: Global) -> Arg<'a>
     option(alloc, "copy", "COPY", help)
 }
 
+fn data_file<'a>(alloc: Global) -> Arg<'a>
+    ensures { IsArg spec.data_file result }
+{
+    let help = "Sectors that come too, in lines of FIRST LAST";
+    option(alloc, "data", "FILE", help)
+}
+
 /// A flag. Its name on the command line is its id.
 fn flag<'a>(alloc: Global, id: &'a str, help: &'a str) -> Arg<'a>
     ensures { IsArg (record (new_rule id.entry.now) { long = Some id.entry.now; action = Some SetTrue }) result }
@@ -136,6 +143,12 @@ fn json<'a>(alloc: Global) -> Arg<'a>
     ensures { IsArg spec.json result }
 {
     flag(alloc, "json", "Print JSON in place of lines")
+}
+
+fn human<'a>(alloc: Global) -> Arg<'a>
+    ensures { IsArg spec.human result }
+{
+    flag(alloc, "human", "Print a page for people in place of lines")
 }
 
 fn device<'a>(alloc: Global) -> Arg<'a>
@@ -324,6 +337,7 @@ fn on_show<'a>(
     let page = with_arg(page, after(alloc));
     let page = with_arg(page, copy(alloc));
     let page = with_arg(page, json(alloc));
+    let page = with_arg(page, human(alloc));
     on_disk(alloc, sizes, page)
 }
 
@@ -395,6 +409,7 @@ fn on_other<'a>(
 {
     let page = image_page(alloc, name, texts);
     let page = with_arg(page, other(alloc));
+    let page = with_arg(page, data_file(alloc));
     let page = with_arg(page, plan_only(alloc));
     let page = with_arg(page, by_table(alloc));
     let page = with_arg(page, other_device(alloc));

@@ -1,5 +1,5 @@
 -- Every plan lands, is accepted, and ends as it has to.
-use Rattle.std.proofs.Common.{◌≡◌, ℕ, List, [], ◌++◌, ◌+◌, refl, sym, ap, subst, Option, Some, inl, length, arith, None, ◌∙◌, ⊎_elim}
+use Rattle.std.proofs.Common.{◌≡◌, ℕ, List, [], ◌++◌, ◌+◌, refl, sym, ap, subst, Option, Some, inl, inr, length, arith, None, ◌∙◌, ⊎_elim}
 use Rattle.std.specs.Prelude.{Contains}
 use Rattle.pt_sector.specs.Sectors.{Sectors, sector, IsSectorSize, Writes, after, Puts}
 use Rattle.pt_bsd.specs.declared.label.Label.{Label}
@@ -13,6 +13,9 @@ use Rattle.pt_plan.proofs.BackupFirst.{backup_first_ended, backup_first_lands, k
 use Rattle.pt_plan.proofs.PrimaryFirst.{primary_first_ended, primary_first_lands, kept_primary_first_ended, kept_primary_first_lands}
 use Rattle.pt_plan.proofs.FromMbr.{from_mbr_ended, from_mbr_lands}
 use Rattle.pt_plan.proofs.OneLabel.{one_label_ended, one_label_lands}
+use Rattle.pt_cases.specs.NewMbr.{emptied, IsNewMbr}
+use Rattle.pt_plan.proofs.NewLabels.{new_mbr_holds}
+use Rattle.pt_plan.proofs.NewMbr.{new_mbr_lands}
 use Rattle.pt_plan.proofs.WithinMbr.{within_mbr_ended, within_mbr_lands}
 use Rattle.pt_cases.specs.Cases.{IsPlan, idle, backup_first, primary_first, from_mbr, one_label, within_mbr}
 use Rattle.pt_cases.specs.Keeps.{StandsOn}
@@ -124,13 +127,33 @@ kept_labels b d o p full phases w l size from (within_mbr q records chain is) sa
     subst (λ (ps : List Writes). HoldsTarget b d o ps w l) (sym same)
     (zeroed_labels b d o p full w l size from (within_mbr q records chain is) stands wanted)
 
+-- what a plan starts from
+from_of : (b : ℕ) (d : Sectors) (p : Layout) (phases : List Writes) → IsPlan b d p phases → (o : Option Layout) × Denotes b d o
+from_of b d p phases (idle healthy none) = (Some p, healthy.denotes)
+from_of b d p phases (backup_first o t is) = (o, is.common.from)
+from_of b d p phases (primary_first o t is) = (o, is.common.from)
+from_of b d p phases (from_mbr o t is) = (o, is.common.from)
+from_of b d p phases (one_label o t is) = (o, is.common.from)
+from_of b d p phases (within_mbr o records chain is) = (o, is.common.from)
+
+-- of an MBR where none was, by the plan on the emptied disk
+labels_of_new : (b : ℕ) (d : Sectors) (p : Layout) (phases : List Writes) (w : Slice) (l : Label) → IsSectorSize b
+    → (is : IsNewMbr b d p phases) → Contains (places_of b p.sectors p.body) w
+    → Contains p.labels (record { number = w.number; label = l }) → HoldsTarget b d is.old phases w l
+labels_of_new b d p phases w l size is stands wanted = new_mbr_holds b d p phases is w l stands (λ ps plan.
+    let from = from_of b (emptied d) p ps plan in
+    (from.0, from.1, zeroed_labels b (emptied d) from.0 p ps w l size from.1 plan stands wanted))
+
 -- each label that is wanted stands at its place: as it stood, over the bytes of the one that was there, or over zeros
 pub plan_labels : (b : ℕ) (d : Sectors) (o : Option Layout) (p : Layout) (phases : List Writes) (primary : Choice) (w : Slice) (l : Label)
     → IsSectorSize b → Denotes b d o → IsPlanBy primary b d p phases
     → Contains (places_of b p.sectors p.body) w → Contains p.labels (record { number = w.number; label = l }) → HoldsTarget b d o phases w l
 plan_labels b d o p phases Zeroed w l size from is stands wanted = zeroed_labels b d o p phases w l size from is stands wanted
-plan_labels b d o p phases Kept w l size from is stands wanted =
+plan_labels b d o p phases Kept w l size from (inl is) stands wanted =
     kept_labels b d o p is.full phases w l size from is.plan is.kept stands wanted
+plan_labels b d o p phases Kept w l size from (inr is) stands wanted =
+    subst (λ (x : Option Layout). HoldsTarget b d x phases w l) (denotes_one_lem b d is.old o is.makes.from from)
+    (labels_of_new b d p phases w l size is stands wanted)
 
 -- ## Lemmas on specs/Commits.antt: every plan lands.
 
@@ -188,21 +211,17 @@ kept_lands b d o p full phases size from (within_mbr q records chain is) same =
 pub plan_lands : (b : ℕ) (d : Sectors) (o : Option Layout) (p : Layout) (phases : List Writes) (primary : Choice) → IsSectorSize b
     → Denotes b d o → (is : IsPlanBy primary b d p phases) → Lands b d o p phases (turn_by primary b d p phases is)
 plan_lands b d o p phases Zeroed size from is = zeroed_lands b d o p phases size from is
-plan_lands b d o p phases Kept size from is = kept_lands b d o p is.full phases size from is.plan is.kept
+plan_lands b d o p phases Kept size from (inl is) = kept_lands b d o p is.full phases size from is.plan is.kept
+plan_lands b d o p phases Kept size from (inr is) =
+    subst (λ (x : Option Layout). Lands b d x p phases (length is.turning)) (denotes_one_lem b d is.old o is.makes.from from)
+    (new_mbr_lands b d p phases is)
 
 -- so its end is healthy, and no reason of the checker's holds against it
-from_of : (b : ℕ) (d : Sectors) (p : Layout) (phases : List Writes) → IsPlan b d p phases → (o : Option Layout) × Denotes b d o
-from_of b d p phases (idle healthy none) = (Some p, healthy.denotes)
-from_of b d p phases (backup_first o t is) = (o, is.common.from)
-from_of b d p phases (primary_first o t is) = (o, is.common.from)
-from_of b d p phases (from_mbr o t is) = (o, is.common.from)
-from_of b d p phases (one_label o t is) = (o, is.common.from)
-from_of b d p phases (within_mbr o records chain is) = (o, is.common.from)
-
 pub from_by : (b : ℕ) (d : Sectors) (p : Layout) (phases : List Writes) (primary : Choice) → IsPlanBy primary b d p phases
     → (o : Option Layout) × Denotes b d o
 from_by b d p phases Zeroed is = from_of b d p phases is
-from_by b d p phases Kept is = from_of b d p is.full is.plan
+from_by b d p phases Kept (inl is) = from_of b d p is.full is.plan
+from_by b d p phases Kept (inr is) = (is.old, is.makes.from)
 
 pub plan_finishes : (b : ℕ) (d : Sectors) (p : Layout) (phases : List Writes) (primary : Choice) → IsSectorSize b
     → IsPlanBy primary b d p phases → IsHealthy b (after phases d) p

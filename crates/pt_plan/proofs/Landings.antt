@@ -52,7 +52,7 @@ pub record IsGood (b : ℕ) (d : Sectors) (p : Layout) (s : ℕ) (v : List ℕ) 
   pub boot : s ≡ 0 → take 440 v ≡ take 440 (sector d 0)
   pub table : IsTable b p s
 
-none_is : (P : ℕ × List ℕ → Type 0) (ws : Writes) → ((s : ℕ) (v : List ℕ) → Puts ws s v → ¬ P (s, v)) → NoneIs P ws
+pub none_is : (P : ℕ × List ℕ → Type 0) (ws : Writes) → ((s : ℕ) (v : List ℕ) → Puts ws s v → ¬ P (s, v)) → NoneIs P ws
 none_is P ws never k w at = never w.0 w.1 (got_puts ws k w at)
 
 module _ (b : ℕ) (d : Sectors) (o : Option Layout) (p : Layout) (phases : List Writes) (turn : ℕ) (from : Denotes b d o)

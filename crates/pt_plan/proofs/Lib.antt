@@ -15,6 +15,8 @@ pub mod Leaving
 pub mod Mendable
 pub mod Mended
 pub mod Needing
+pub mod NewLabels
+pub mod NewMbr
 pub mod OneLabel
 pub mod Outcomes
 pub mod PhasesLemmas

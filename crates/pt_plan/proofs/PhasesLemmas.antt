@@ -18,6 +18,7 @@ use Rattle.pt_cases.proofs.Frames.{puts_at, rises_in_tail, one_is}
 use Rattle.pt_plan.proofs.Landings.{label_middle, primary_low, backup_high, array_few, backup_few}
 use Rattle.pt_cases.proofs.Select.{Rises, rises_ascends}
 use Rattle.pt_cases.proofs.Sides.{puts_array}
+use Rattle.pt_cases.specs.NewMbr.{empty_head, emptied, IsNewMbr, IsTurning, filled, empty, Zeroes}
 use Rattle.pt_cases.specs.Kept.{IsPlanBy, KeptOf}
 use Rattle.pt_cases.specs.declared.primary.Primary.{Primary as Choice}
 use Rattle.pt_cases.specs.declared.primary.Primary.TheVariants.{Zeroed, Kept}
@@ -234,11 +235,30 @@ kept_ascends b d p full phases size (one_label o t is) same =
 kept_ascends b d p full phases size (within_mbr o records chain is) same =
     subst (All IsPhase) (sym same) (zeroed_ascends b d p full size (within_mbr o records chain is))
 
+-- of a plan of an MBR where none was: the phases of a plan on the emptied disk, or one write, and then single ones
+new_mbr_ascends : (b : ℕ) (d : Sectors) (p : Layout) (phases : List Writes) → IsSectorSize b → IsNewMbr b d p phases → All IsPhase phases
+new_mbr_ascends b d p phases size is =
+    subst (All IsPhase) (sym is.is)
+    (All-append IsPhase is.turning (is.first ++ is.last) (turning_ascends is.turns)
+    (All-append IsPhase is.first is.last (zeroes_ascend 1 is.first is.is_first) (zeroes_ascend (length d - 1) is.last is.is_last)))
+  where
+    alone : (k : ℕ) (v : List ℕ) → All IsPhase (one_write k v ∷ [])
+    alone k v = All-cons IsPhase (one_write k v) [] (one_phase k v) (All-nil IsPhase)
+
+    turning_ascends : IsTurning b d p is.turning → All IsPhase is.turning
+    turning_ascends (filled plan some) = zeroed_ascends b (emptied d) p is.turning size plan
+    turning_ascends (empty plan same) = subst (All IsPhase) (sym same) (alone 0 (empty_head (sector d 0)))
+
+    zeroes_ascend : (s : ℕ) (zs : List Writes) → Zeroes b d is.old p s zs → All IsPhase zs
+    zeroes_ascend s zs (inl (stale, same)) = subst (All IsPhase) (sym same) (alone s (replicate b 0))
+    zeroes_ascend s zs (inr (none, same)) = subst (All IsPhase) (sym same) (All-nil IsPhase)
+
 -- each phase of a plan has writes, and they ascend
 pub plan_ascends_lem : (b : ℕ) (d : Sectors) (p : Layout) (phases : List Writes) (primary : Choice) → IsSectorSize b
     → IsPlanBy primary b d p phases → All IsPhase phases
 plan_ascends_lem b d p phases Zeroed size is = zeroed_ascends b d p phases size is
-plan_ascends_lem b d p phases Kept size is = kept_ascends b d p is.full phases size is.plan is.kept
+plan_ascends_lem b d p phases Kept size (inl is) = kept_ascends b d p is.full phases size is.plan is.kept
+plan_ascends_lem b d p phases Kept size (inr is) = new_mbr_ascends b d p phases size is
 
 -- ## What the steps of a commit answer.
 

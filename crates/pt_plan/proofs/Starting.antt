@@ -9,9 +9,10 @@ use Rattle.pt_layout.specs.Healthy.{Healthy}
 use Rattle.pt_members.specs.Tables.{OwnedOf, TableOf}
 use Rattle.pt_plan.proofs.EveryPlan.{plan_finishes, plan_not_refused}
 use Rattle.pt_cases.specs.Kept.{IsPlanBy}
+use Rattle.pt_cases.specs.NewMbr.{UnplannedBy}
 use Rattle.pt_cases.specs.declared.primary.Primary.{Primary as Choice}
 use Rattle.pt_planner.specs.PlanReads.{ReasonIs, PlanReadsBy}
-use Rattle.pt_cases.specs.Unplanned.{fault_in, Unplanned}
+use Rattle.pt_cases.specs.Unplanned.{fault_in}
 use Rattle.pt_cases.specs.declared.targets.error.PlanError.{PlanError}
 use Rattle.pt_cases.specs.declared.targets.error.PlanError.TheVariants as plan
 use Rattle.pt_plan.specs.Batches.{Words, FromNothing, ChangedBy, by_words, MakesTable, EditedBy, IsPlanned, IsReady, IsRefusal}
@@ -50,12 +51,12 @@ module _ (primary : Choice) (b n : ℕ) (batch : Words) (d : Sectors) (sized : l
   not_edited Memory is = tt
 
   module _ (l : Layout) (to : EditedBy b (sectors_in o m) o batch (Ok l)) where
-    leads : Leads (Denotes b) (IsReason b) FromNothing (ChangedBy b n) (IsPlanBy primary b) (Unplanned b) (Healthy b) (TableOf b)
+    leads : Leads (Denotes b) (IsReason b) FromNothing (ChangedBy b n) (IsPlanBy primary b) (UnplannedBy primary b) (Healthy b) (TableOf b)
         (OwnedOf b)
         (by_words batch) d o l
     leads = record { from = starts.from; may = starts.may; to = subst (λ (k : ℕ). EditedBy b k o batch (Ok l)) here to }
 
-    pub not_planned : (e : CommitError) → NotPlanned b d l e → IsRefusal primary b n batch d e
+    pub not_planned : (e : CommitError) → NotPlanned primary b d l e → IsRefusal primary b n batch d e
     not_planned (NoTable e) none = absurd none
     not_planned (Edit r) none = absurd none
     not_planned (Plan e) is = (o, l, leads, is)
@@ -87,13 +88,14 @@ unplanned_hides (plan.Unsound f) = λ failed. failed
 unplanned_hides (plan.Device fault) = tt
 unplanned_hides plan.Memory = tt
 
-pub unplanned_told : (b : ℕ) (d : Sectors) (l : Layout) (e : PlanError) → Unplanned b d l e → NotPlanned b d l (commit_unplanned e)
-unplanned_told b d l plan.NotOneSwitch is = is
-unplanned_told b d l plan.ReusedInOneBatch is = is
-unplanned_told b d l plan.NeedsRepair is = is
-unplanned_told b d l (plan.Unsound f) is = is
-unplanned_told b d l (plan.Device fault) is = tt
-unplanned_told b d l plan.Memory is = tt
+pub unplanned_told : (primary : Choice) (b : ℕ) (d : Sectors) (l : Layout) (e : PlanError) → UnplannedBy primary b d l e
+    → NotPlanned primary b d l (commit_unplanned e)
+unplanned_told primary b d l plan.NotOneSwitch is = is
+unplanned_told primary b d l plan.ReusedInOneBatch is = is
+unplanned_told primary b d l plan.NeedsRepair is = is
+unplanned_told primary b d l (plan.Unsound f) is = is
+unplanned_told primary b d l (plan.Device fault) is = tt
+unplanned_told primary b d l plan.Memory is = tt
 
 -- a plan is never refused by the checker
 pub not_safe : (primary : Choice) (b n : ℕ) (batch : Words) (d : Sectors) (phases : List Writes) → IsSectorSize b

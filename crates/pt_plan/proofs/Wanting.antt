@@ -8,10 +8,10 @@ use Rattle.pt_members.specs.declared.layout.Layout.{Layout}
 use Rattle.pt_members.specs.Tables.{OwnedOf, TableOf}
 use Rattle.pt_layout.specs.Healthy.{VerdictReads, Healthy}
 use Rattle.pt_cases.specs.Kept.{IsPlanBy}
+use Rattle.pt_cases.specs.NewMbr.{UnplannedBy}
 use Rattle.pt_cases.specs.declared.primary.Primary.{Primary as Choice}
 use Rattle.pt_check.specs.Answers.{CheckReads}
 use Rattle.pt_planner.specs.PlanReads.{PlanReadsBy, MakeReadsBy}
-use Rattle.pt_cases.specs.Unplanned.{Unplanned}
 use Rattle.pt_plan.proofs.EveryPlan.{from_by, plan_lands, plan_finishes, plan_not_refused}
 use Rattle.pt_plan.specs.Commits.{Leads, commit_failure}
 use Rattle.pt_plan.specs.Batches.{FromNothing, ChangedBy, to_layout}
@@ -37,11 +37,11 @@ accepted primary b w d phases size is = let from = from_by b d w phases primary 
 
 -- a layout leads to itself, from whatever the disk denotes
 module _ (primary : Choice) (b n : ℕ) (w : Layout) (d : Sectors) (o : Option Layout) (from : Denotes b d o) where
-  leads : Leads (Denotes b) (IsReason b) FromNothing (ChangedBy b n) (IsPlanBy primary b) (Unplanned b) (Healthy b) (TableOf b) (OwnedOf b)
-      (to_layout w) d o w
+  leads : Leads (Denotes b) (IsReason b) FromNothing (ChangedBy b n) (IsPlanBy primary b) (UnplannedBy primary b) (Healthy b) (TableOf b)
+      (OwnedOf b) (to_layout w) d o w
   leads = record { from = from; may = λ none. tt; to = refl }
 
-  pub not_planned_for : (e : CommitError) → NotPlanned b d w e → IsRefusalOf primary b n w d e
+  pub not_planned_for : (e : CommitError) → NotPlanned primary b d w e → IsRefusalOf primary b n w d e
   not_planned_for (NoTable e) none = absurd none
   not_planned_for (Edit r) none = absurd none
   not_planned_for (Plan e) is = (o, w, leads, is)

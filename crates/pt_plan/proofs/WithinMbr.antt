@@ -191,7 +191,7 @@ module _ (b : ℕ) (d : Sectors) (o : Option Layout) (p : Layout) (records : Lis
   new : Denotes b c (Some p)
   new = mbr_denotes b d o p is.old_records is.old_chain records chain all is.met is.body is.common.sectors is.linked some c count ended
 
-  ends : IsHealthy b c p
+  pub ends : IsHealthy b c p
   ends =
       record {
         denotes = new;
@@ -223,7 +223,7 @@ module _ (b : ℕ) (d : Sectors) (o : Option Layout) (p : Layout) (records : Lis
   needed_good s v puts (inr (inr place)) =
       record { inside = less s place; boot = boot s v puts; table = inr place }
 
-  good_all : (s : ℕ) (v : List ℕ) → Puts all s v → IsGood b d p s v
+  pub good_all : (s : ℕ) (v : List ℕ) → Puts all s v → IsGood b d p s v
   good_all s v puts = needed_good s v puts (is.each s v puts).0
 
   in_one : is.quiet ≡ [] → phases ≡ loud ∷ [] → Lands b d o p phases 1

@@ -13,7 +13,8 @@ use Rattle.pt_words.specs.declared.word.Edit.TheVariants.{Align, Empty}
 use Rattle.pt_members.specs.Tables.{OwnedOf, TableOf}
 use Rattle.pt_cases.specs.Kept.{IsPlanBy}
 use Rattle.pt_cases.specs.declared.primary.Primary.{Primary as Choice}
-use Rattle.pt_cases.specs.Unplanned.{IsUnmendable, Unplanned}
+use Rattle.pt_cases.specs.NewMbr.{UnplannedBy}
+use Rattle.pt_cases.specs.Unplanned.{IsUnmendable}
 use Rattle.pt_plan.specs.declared.error.CommitError.{CommitError}
 use Rattle.pt_plan.specs.declared.repair_error.RepairError.{RepairError}
 use Rattle.pt_plan.specs.Commits.{Committed, Planned, Ready, Refuses}
@@ -63,7 +64,8 @@ FromNothing (to_layout wanted) = Unit {0}
 -- a commit of the change to a disk of n sectors of b bytes, by what becomes of its primary copy
 abbrev pub CommitsChange : Choice → ℕ → ℕ → Change → Result Unit CommitError → Told → Told → Type 0
 CommitsChange primary b n =
-    Committed (Denotes b) (IsReason b) FromNothing (ChangedBy b n) (IsPlanBy primary b) (Unplanned b) (Healthy b) (TableOf b) (OwnedOf b)
+    Committed (Denotes b) (IsReason b) FromNothing (ChangedBy b n) (IsPlanBy primary b) (UnplannedBy primary b) (Healthy b) (TableOf b)
+    (OwnedOf b)
 
 -- a commit of it, whatever becomes of the primary copy
 abbrev pub CommitsAny : ℕ → ℕ → Change → Result Unit CommitError → Told → Told → Type 0
@@ -72,17 +74,20 @@ CommitsAny b n change result old new = (primary : Choice) × CommitsChange prima
 -- a plan for the change
 abbrev pub IsPlannedChange : Choice → ℕ → ℕ → Change → Sectors → List Writes → Type 0
 IsPlannedChange primary b n =
-    Planned (Denotes b) (IsReason b) FromNothing (ChangedBy b n) (IsPlanBy primary b) (Unplanned b) (Healthy b) (TableOf b) (OwnedOf b)
+    Planned (Denotes b) (IsReason b) FromNothing (ChangedBy b n) (IsPlanBy primary b) (UnplannedBy primary b) (Healthy b) (TableOf b)
+    (OwnedOf b)
 
 -- a checked plan for it
 abbrev pub IsReadyChange : Choice → ℕ → ℕ → Change → Sectors → List Writes → Type 0
 IsReadyChange primary b n =
-    Ready (Denotes b) (IsReason b) FromNothing (ChangedBy b n) (IsPlanBy primary b) (Unplanned b) (Healthy b) (TableOf b) (OwnedOf b)
+    Ready (Denotes b) (IsReason b) FromNothing (ChangedBy b n) (IsPlanBy primary b) (UnplannedBy primary b) (Healthy b) (TableOf b)
+    (OwnedOf b)
 
 -- why it is refused
 abbrev pub IsRefusedChange : Choice → ℕ → ℕ → Change → Sectors → CommitError → Type 0
 IsRefusedChange primary b n =
-    Refuses (Denotes b) (IsReason b) FromNothing (ChangedBy b n) (IsPlanBy primary b) (Unplanned b) (Healthy b) (TableOf b) (OwnedOf b)
+    Refuses (Denotes b) (IsReason b) FromNothing (ChangedBy b n) (IsPlanBy primary b) (UnplannedBy primary b) (Healthy b) (TableOf b)
+    (OwnedOf b)
 
 -- the same of a batch of words
 abbrev pub Commits : Choice → ℕ → ℕ → Words → Result Unit CommitError → Told → Told → Type 0

@@ -11,7 +11,7 @@ use Rattle.pt_words.specs.declared.error.Refusal.{Refusal}
 use Rattle.pt_cases.specs.declared.targets.error.PlanError.{PlanError}
 use Rattle.pt_plan.specs.declared.error.CommitError.{CommitError}
 use Rattle.pt_plan.specs.declared.error.CommitError.TheVariants.{NoTable, Edit, Plan, Check, Device, Memory}
-use Rattle.std.proofs.Common.{length, ◌≤◌, ◌+◌}
+use Rattle.std.proofs.Common.{length, ◌≤◌, ◌+◌, inl, inr}
 use Rattle.pt_cases.specs.Kept.{IsPlanBy, KeptOf}
 use Rattle.pt_cases.specs.declared.primary.Primary.{Primary as Choice}
 use Rattle.pt_cases.specs.declared.primary.Primary.TheVariants.{Zeroed, Kept}
@@ -181,9 +181,11 @@ turn_of_kept phases (from_mbr o t is) kept = 2
 turn_of_kept phases (one_label o t is) kept = 1
 turn_of_kept {full = full} phases (within_mbr o records chain is) kept = length full
 
+-- where it is kept, of an MBR on a disk that denotes none: the last phase before headers are zeroed
 abbrev pub turn_by : (primary : Choice) (b : ℕ) (d : Sectors) (p : Layout) (phases : List Writes) → IsPlanBy primary b d p phases → ℕ
 turn_by Zeroed b d p phases is = turn_of is
-turn_by Kept b d p phases is = turn_of_kept phases is.plan is.kept
+turn_by Kept b d p phases (inl is) = turn_of_kept phases is.plan is.kept
+turn_by Kept b d p phases (inr is) = length is.turning
 
 -- ## How a plan lands: that it is accepted, with which switch, and in what it ends.
 

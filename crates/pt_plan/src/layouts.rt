@@ -6,7 +6,8 @@ ghost use Rattle.pt_sector.specs.Device.{Blames};
 ghost use Rattle.pt_sector.specs.Overlays.{OnlyReads};
 ghost use Rattle.pt_apply.specs.Plans.{phases_of, InRange};
 ghost use Rattle.pt_planner.specs.PlanReads.{FailedInPlan, MakeReadsBy};
-ghost use Rattle.pt_cases.specs.Unplanned.{fault_in as plan_fault_in, Unplanned};
+ghost use Rattle.pt_cases.specs.NewMbr.{UnplannedBy};
+ghost use Rattle.pt_cases.specs.Unplanned.{fault_in as plan_fault_in};
 ghost use Rattle.pt_cases.specs.declared.primary.Primary.TheVariants.{Kept};
 ghost use Rattle.pt_plan.specs.Layouts.{CommitsLayout, IsAccepted, IsReadyFor, IsRefusalOf};
 ghost use Rattle.pt_plan.specs.Batches.{FailedInCommit, LayoutReads};
@@ -37,7 +38,7 @@ pub fn plan_for_layout<const B: usize, D: Disk<B>>(
     ensures in_range { IfOk result (InRange (D.count disk.old)) }
     ensures phases { IfOk result (λ plan. All (λ p. 0 < length p.items) plan.phases.items) }
     ensures accepted { D.tells → IfOk result (λ plan. IsAccepted Kept B wanted.now (D.told disk.old).seen (phases_of plan)) }
-    ensures refused { D.tells → IfErr result (Unplanned B (D.told disk.old).seen wanted.now) }
+    ensures refused { D.tells → IfErr result (UnplannedBy Kept B (D.told disk.old).seen wanted.now) }
 {
     make_plan_by(alloc, disk, wanted, Primary::Kept)
 }

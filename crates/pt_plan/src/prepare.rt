@@ -123,7 +123,7 @@ fn planned<const B: usize, D: Disk<B>>(
     ensures in_range { IfOk result (InRange (D.count disk.old)) }
     ensures some { IfOk result (λ plan. All (λ p. 0 < length p.items) plan.phases.items) }
     ensures plan { D.tells → IfOk result (λ plan. IsPlanBy primary B (D.told disk.old).seen wanted.now (phases_of plan)) }
-    ensures err { D.tells → IfErr result (NotPlanned B (D.told disk.old).seen wanted.now) }
+    ensures err { D.tells → IfErr result (NotPlanned primary B (D.told disk.old).seen wanted.now) }
 {
     let plan = plan_by(alloc, disk, known, wanted, primary)?;
     Ok(plan)

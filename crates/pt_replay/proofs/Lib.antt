@@ -6,6 +6,8 @@ pub mod Parts
 pub mod PlanRows
 pub mod Saying
 pub mod SayingLike
+pub mod SayingSet
+pub mod TableRows
 pub mod Unknown
 pub mod ViewLemmas
 pub mod Walk

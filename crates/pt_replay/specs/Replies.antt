@@ -33,6 +33,11 @@ use Rattle.pt_plan.specs.declared.like_error.LikeError.{LikeError}
 use Rattle.pt_plan.specs.declared.like_error.LikeError.TheVariants as like
 use Rattle.pt_plan.specs.declared.repair_error.RepairError.{RepairError}
 use Rattle.pt_plan.specs.declared.repair_error.RepairError.TheVariants as repair
+use Rattle.pt_drafts.specs.declared.fault.Key.{Key}
+use Rattle.pt_drafts.specs.declared.fault.Key.TheVariants as key
+use Rattle.pt_drafts.specs.declared.fault.TextFault.{TextFault}
+use Rattle.pt_set.specs.declared.error.SetError.{SetError}
+use Rattle.pt_set.specs.declared.error.SetError.TheVariants as set_error
 use Rattle.pt_replay.specs.declared.answers.Status.TheVariants as status
 use Rattle.pt_replay.specs.declared.answers.Reply.{Reply}
 use Rattle.pt_replay.specs.declared.answers.Answer.{Answer}
@@ -58,7 +63,7 @@ IsTypeCode stored code =
     ((c : ℕ) × (code ≡ pos c) × (type_of c ≡ Some stored)) ⊎ ((code ≡ negsuc 0) × ((c : ℕ) → type_of c ≢ Some stored))
 
 -- the numbers of arguments: the sector size, the view, the number and letter of a partition, the random bytes, the words, the rows, the
--- sector size of the other view, the other view
+-- sector size of the other view, the other view, a text that isn't UTF-8
 abbrev pub the_size : ℕ
 the_size = 1
 
@@ -83,6 +88,9 @@ the_other_size = 7
 abbrev pub the_other_view : ℕ
 the_other_view = 8
 
+abbrev pub the_text : ℕ
+the_text = 9
+
 abbrev pub about_code : About → ℕ
 about_code about.Nothing = 0
 about_code about.Argument = 1
@@ -95,6 +103,50 @@ about_code about.Check = 7
 about_code about.Repair = 8
 about_code about.Adopt = 9
 about_code about.OtherTable = 10
+about_code about.Text = 11
+
+-- the keys of a table's text, in the order in which the text is described: the text, its one member, an unknown name, the members of a
+-- table, the members of a partition
+abbrev pub key_number : Key → ℕ
+key_number key.Text = 1
+key_number key.Table = 2
+key_number key.Unknown = 3
+key_number key.Label = 4
+key_number key.Device = 5
+key_number key.Unit = 6
+key_number key.SectorSize = 7
+key_number key.Sectors = 8
+key_number key.Id = 9
+key_number key.FirstLba = 10
+key_number key.LastLba = 11
+key_number key.Entries = 12
+key_number key.TableLength = 13
+key_number key.Partitions = 14
+key_number key.Chain = 15
+key_number key.Number = 16
+key_number key.Node = 17
+key_number key.Start = 18
+key_number key.Size = 19
+key_number key.Last = 20
+key_number key.Offset = 21
+key_number key.Type = 22
+key_number key.TypeName = 23
+key_number key.Uuid = 24
+key_number key.Name = 25
+key_number key.NameUnits = 26
+key_number key.Attributes = 27
+key_number key.Attrs = 28
+key_number key.Bootable = 29
+key_number key.Boot = 30
+key_number key.StartChs = 31
+key_number key.EndChs = 32
+key_number key.Record = 33
+key_number key.Bsd = 34
+
+-- the number of an object of `partitions`, from 1 on; 0 where it is none's
+abbrev pub part_number : Option ℕ → ℕ
+part_number None = 0
+part_number (Some n) = n
 
 -- ## What replies say.
 
@@ -277,3 +329,12 @@ abbrev pub like_answer : LikeError → Answer
 like_answer like.OtherSize = answer status.Refused other_count
 like_answer (like.Other e) = of_other (table_answer e)
 like_answer (like.Disk e) = commit_answer e
+
+-- the first fault of a table's text, by the number of its key and that of its object
+abbrev pub fault_answer : TextFault → Answer
+fault_answer f = told status.Refused about.Text (key_number f.key) (part_number f.part) 0
+
+-- why a disk doesn't take the table of a text
+abbrev pub set_answer : SetError → Answer
+set_answer (set_error.Fault f) = fault_answer f
+set_answer (set_error.Disk e) = commit_answer e

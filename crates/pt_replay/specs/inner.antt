@@ -1,4 +1,5 @@
 pub mod ForFields
 pub mod Given
 pub mod Replies
+pub mod Tables
 pub mod Wanted

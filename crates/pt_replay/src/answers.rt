@@ -66,7 +66,8 @@ fn exit_code(status: ExitStatus) -> i32
 pub enum About {
     Nothing,
     /// An argument: 1 the sector's size, 2 the view, 3 the path, 4 the random bytes, 5 no words or words that are not
-    /// UTF-8, 6 the writes of a plan, 7 the sector's size of the other view, 8 the other view.
+    /// UTF-8, 6 the writes of a plan, 7 the sector's size of the other view, 8 the other view, 9 a text that
+    /// isn't UTF-8.
     Argument,
     /// An edit word that can't be read: the number is of the fault, `a` the word, from 1.
     Word,
@@ -86,6 +87,8 @@ pub enum About {
     Adopt,
     /// Why the other disk has no table, numbered as in `Table`.
     OtherTable,
+    /// The first fault of a table's text: the number is of the key, `a` the object of `partitions`, from 1, or 0.
+    Text,
 }
 
 impl About {
@@ -104,6 +107,7 @@ impl About {
             About::Repair => 8,
             About::Adopt => 9,
             About::OtherTable => 10,
+            About::Text => 11,
         }
     }
 }

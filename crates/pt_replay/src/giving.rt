@@ -5,6 +5,7 @@ ghost use Rattle.pt_sector.specs.Sectors.{IsSectorSize};
 ghost use Rattle.pt_apply.specs.Plans.{writes_of, phases_of};
 ghost use Rattle.pt_replay.specs.Given.{rows_in, bytes_in, buffers};
 ghost use Rattle.pt_replay.specs.inner.Given.{AreRows, Gives};
+ghost use Rattle.pt_replay.specs.inner.Tables.{GivesAll};
 ghost use Rattle.pt_replay.specs.Replies.{answer, counting};
 
 use crate::answers::{Answer, Status};
@@ -71,6 +72,17 @@ pub fn counted(status: Status, count: usize, phases: usize) -> Answer
     answer.reply.count = count as u64;
     answer.reply.phases = phases as u64;
     answer
+}
+
+/// Puts a list into the caller's buffer, or says how much room it takes.
+pub fn give_list<T: Copy>(list: &[T], into: &mut [T]) -> Answer
+    ensures says { GivesAll list.now into.old into.new result.status result.reply }
+{
+    if list.len() > into.len() {
+        return counted(Status::Room, list.len(), 0);
+    }
+    put(into, list);
+    counted(Status::Done, list.len(), 0)
 }
 
 /// Puts the writes of a plan into the caller's buffers, or says how much room they take.

@@ -1,5 +1,6 @@
 //! Answers about a disk of which the caller knows some sectors (docs/c.md): what it denotes, whether it is healthy, where
-//! a partition's sectors are, and checked plans of edits and repairs, and of the layout of another disk.
+//! a partition's sectors are, and checked plans of edits and repairs, and of the layout of another disk; its table as text,
+//! its free blocks, and checked plans of the table that a text says.
 //!
 //! The caller reads and writes the disk. A call gets the sectors that were read so far, and ends with an answer or with the
 //! number of one more sector that it wants. It keeps no state: the next call begins anew.
@@ -22,6 +23,8 @@ mod recovered;
 mod refusals;
 mod replay;
 mod rows;
+mod setting;
+mod tables;
 mod taking;
 mod view;
 mod wanting;
@@ -33,6 +36,8 @@ pub use health::verified;
 pub use listing::members;
 pub use places::located;
 pub use planning::{mended, planned};
-pub use rows::{GuidBytes, GuidText, MemberRow, TableRow, WriteRow};
+pub use rows::{FreeRow, GuidBytes, GuidText, MemberRow, TableRow, WriteRow};
+pub use setting::set_planned;
+pub use tables::{free_listed, table_written};
 pub use view::View;
 pub use wanting::wanted;

@@ -2,13 +2,16 @@
 
 ghost use Rattle.std.specs.Prelude.{◌≡◌};
 ghost use Rattle.pt_replay.specs.Replies.{why_reply, commit_answer, repair_answer, like_answer};
+ghost use Rattle.pt_replay.specs.Replies.{key_number, fault_answer, part_number, set_answer};
 ghost use Rattle.pt_plan.specs.declared.error.CommitError.TheVariants as commit;
 
 use crate::answers::{About, Answer, Status};
 use crate::recovered::no_table;
 use pt_check::Why;
+use pt_drafts::{Key, TextFault};
 use pt_plan::{CommitError, LikeError, RepairError};
 use pt_sector::Fault;
+use pt_set::SetError;
 
 /// The reason of the checker, with its arguments as the command prints them.
 pub fn reason(status: Status, why: Why) -> Answer
@@ -78,5 +81,74 @@ pub fn unmended(error: RepairError) -> Answer
         RepairError::Check(why) => reason(Status::Refused, why),
         RepairError::Device(met) => fault(met),
         RepairError::Memory => Answer::of(Status::Memory),
+    }
+}
+
+// The number of a key, in the order in which a text is described.
+fn number_of(key: Key) -> u8
+    ensures { result ≡ key_number key }
+{
+    match key {
+        Key::Text => 1,
+        Key::Table => 2,
+        Key::Unknown => 3,
+        Key::Label => 4,
+        Key::Device => 5,
+        Key::Unit => 6,
+        Key::SectorSize => 7,
+        Key::Sectors => 8,
+        Key::Id => 9,
+        Key::FirstLba => 10,
+        Key::LastLba => 11,
+        Key::Entries => 12,
+        Key::TableLength => 13,
+        Key::Partitions => 14,
+        Key::Chain => 15,
+        Key::Number => 16,
+        Key::Node => 17,
+        Key::Start => 18,
+        Key::Size => 19,
+        Key::Last => 20,
+        Key::Offset => 21,
+        Key::Type => 22,
+        Key::TypeName => 23,
+        Key::Uuid => 24,
+        Key::Name => 25,
+        Key::NameUnits => 26,
+        Key::Attributes => 27,
+        Key::Attrs => 28,
+        Key::Bootable => 29,
+        Key::Boot => 30,
+        Key::StartChs => 31,
+        Key::EndChs => 32,
+        Key::Record => 33,
+        Key::Bsd => 34,
+    }
+}
+
+// The number of an object of `partitions`, from 1 on, or 0.
+fn part_of(part: Option<u64>) -> u64
+    ensures { result ≡ part_number part }
+{
+    match part {
+        Some(part) => part,
+        None => 0,
+    }
+}
+
+// The first fault of a table's text.
+fn at_fault(fault: TextFault) -> Answer
+    ensures { result ≡ fault_answer fault }
+{
+    Answer::told(Status::Refused, About::Text, number_of(fault.key)).with(part_of(fault.part), 0)
+}
+
+/// Why a disk doesn't take the table of a text.
+pub fn unset(error: SetError) -> Answer
+    ensures { result ≡ set_answer error }
+{
+    match error {
+        SetError::Fault(fault) => at_fault(fault),
+        SetError::Disk(error) => refused(error),
     }
 }

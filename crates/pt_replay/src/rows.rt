@@ -44,6 +44,16 @@ pub struct MemberRow {
     pub name: [u16; 36],
 }
 
+/// A block of free sectors.
+#[repr(C)]
+#[derive(Clone, Copy)]
+pub struct FreeRow {
+    pub first: u64,
+    pub last: u64,
+    /// The number of the extended partition or of the slice that it lies inside; 0 at the table's own level.
+    pub inside: u64,
+}
+
 /// A GUID, by its sixteen bytes as a disk stores them.
 #[repr(C)]
 #[derive(Clone, Copy)]

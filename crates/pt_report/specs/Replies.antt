@@ -17,11 +17,13 @@ use Rattle.pt_layout.specs.declared.sound.finding.Finding.TheVariants as finding
 use Rattle.pt_layout.specs.declared.sound.finding.Verdict.{Verdict}
 use Rattle.pt_layout.specs.declared.sound.finding.Verdict.TheVariants as verdict
 use Rattle.pt_layout.specs.Healthy.{finding_number}
+use Rattle.pt_layout.specs.Sentences.{finding_sentence}
 use Rattle.pt_check.specs.declared.answer.Answer.{Answer}
 use Rattle.pt_check.specs.declared.answer.Answer.TheVariants as answer
 use Rattle.pt_check.specs.declared.answer.Why.{Why}
 use Rattle.pt_check.specs.declared.answer.Why.TheVariants as why
 use Rattle.pt_check.specs.Answers.{why_number}
+use Rattle.pt_check.specs.Sentences.{why_sentence}
 use Rattle.pt_edit.specs.declared.free.FreeBlock.{FreeBlock}
 use Rattle.pt_report.specs.declared.reply.Reply.{Reply}
 use Rattle.pt_report.specs.declared.reply.Reply.TheVariants.{Text, Layout, Place, Free, Checked, Done}
@@ -149,3 +151,16 @@ IsNo (Place None) = Unit {0}
 IsNo (Free blocks) = blocks.items ≡ []
 IsNo (Checked (answer.No why)) = Unit {0}
 IsNo _ = ⊥
+
+-- ## What a person is told besides.
+
+-- of a no that gives a reason the sentence of that reason
+abbrev pub reply_sentence : Reply → Option (List ℕ)
+reply_sentence (reply.Verdict (verdict.No f)) = Some (finding_sentence f)
+reply_sentence (Checked (answer.No w)) = Some (why_sentence w)
+reply_sentence _ = None
+
+-- a sentence on a line of its own
+abbrev pub sentence_line : Option (List ℕ) → List ℕ
+sentence_line None = []
+sentence_line (Some sentence) = sentence ++ codes "\n"

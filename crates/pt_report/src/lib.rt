@@ -12,6 +12,7 @@ mod reply;
 mod status;
 mod why;
 
+pub use name::{first_char, units};
 pub use no_table::{print_no_side, print_no_table};
 pub use reply::Reply;
 pub use status::Status;

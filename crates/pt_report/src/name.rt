@@ -17,8 +17,8 @@ pub fn print_name<O: Write>(out: &mut O, name: &[u16; 36]) -> io::Result<()>
     print_end(out, units(name))
 }
 
-// The units of a name up to its first zero.
-fn units(name: &[u16; 36]) -> &[u16]
+/// The units of a name up to its first zero.
+pub fn units(name: &[u16; 36]) -> &[u16]
     ensures { result.now ≡ units_of name.now }
 {
     for k in 0..36 {
@@ -76,8 +76,8 @@ fn print_decoded<O: Write>(out: &mut O, units: &[u16]) -> io::Result<()>
     Ok(())
 }
 
-// The first character of some units, none for a surrogate without a partner, and the units behind it.
-fn first_char(units: &[u16]) -> (Option<char>, &[u16])
+/// The first character of some units, none for a surrogate without a partner, and the units behind it.
+pub fn first_char(units: &[u16]) -> (Option<char>, &[u16])
     requires { 0 < length units.now }
     ensures first { utf16_chars units.now ≡ result.0 ∷ utf16_chars result.1.now }
     ensures fewer { length result.1.now < length units.now }

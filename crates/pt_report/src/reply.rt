@@ -3,6 +3,7 @@
 ghost use Rattle.std.specs.Prelude.{◌↔◌, IsTrue, OnOk};
 ghost use Rattle.std.specs.Io.KnownBytes.{Appends};
 ghost use Rattle.pt_report.specs.Replies.{IsNo, reply_text, answer_line, place_line, verdict_line};
+ghost use Rattle.pt_report.specs.Replies.{reply_sentence, sentence_line};
 
 use crate::blocks::print_blocks;
 use crate::finding::print_finding;
@@ -57,6 +58,20 @@ impl Reply {
             Reply::Free(blocks) => print_blocks(out, blocks.as_slice()),
             Reply::Checked(answer) => print_answer(out, *answer),
             Reply::Done => out.write_all(b"done\n"),
+        }
+    }
+}
+
+impl Reply {
+    /// Prints the sentence of a no that gives a reason, on a line: after an Ok a writer that knows its bytes has it behind those that it
+    /// had.
+    pub fn explain<E: Write>(&self, err: &mut E) -> io::Result<()>
+        ensures { OnOk result (Appends (E.contents err.old) (E.contents err.new) (sentence_line (reply_sentence self.now))) }
+    {
+        match self {
+            Reply::Verdict(Verdict::No(finding)) => writeln!(err, "{finding}"),
+            Reply::Checked(Answer::No(why)) => writeln!(err, "{why}"),
+            _ => Ok(()),
         }
     }
 }

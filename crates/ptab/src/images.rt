@@ -4,7 +4,8 @@ ghost use Rattle.std.specs.Prelude.{◌≡◌};
 ghost use Rattle.pt_sector.specs.Sectors.{IsSectorSize};
 
 use crate::past::Past;
-use pt_answers::{Images, Opening, as_device};
+use crate::what::what_is;
+use pt_answers::{Images, Opening, Reader, What, as_device};
 use pt_disks::{
     Access, FileDisk, NoDevice, OpenError, Store, device_sector_size, open_plain, open_readable,
 };
@@ -31,13 +32,31 @@ where
 {
     rt: &'a R,
     past: Past<FileDisk<B>>,
+    // Who is told what stands at a path that isn't opened, and what stands at the last one.
+    reader: Reader,
+    what: Option<What>,
 }
 
 impl<'a, const B: usize, R: Files<File = File> + AllocGlobal> FileImages<'a, B, R> {
-    pub fn new(rt: &'a R) -> FileImages<'a, B, R> {
+    pub fn new(rt: &'a R, reader: Reader) -> FileImages<'a, B, R> {
         FileImages {
             rt,
             past: Past::new(),
+            reader,
+            what: None,
+        }
+    }
+
+    /// What stands at the last path that wasn't opened, where a person is to be told that.
+    pub fn what(&self) -> Option<What> {
+        self.what
+    }
+
+    // That, of a path where this is tried. Nobody but a person costs a call of the system.
+    fn what_at(&self, path: &str, medium: Medium, access: Access) -> Option<What> {
+        match self.reader {
+            Reader::Program => None,
+            Reader::Person => Some(what_is(self.rt, path, medium, access)),
         }
     }
 
@@ -79,6 +98,9 @@ impl<'a, const B: usize, R: Files<File = File> + AllocGlobal> Images<B, FileDisk
     ) -> Result<FileDisk<B>, NoDevice> {
         let opened = self.opened(path, opening, access);
         self.past = self.past.opened(path, opening, access, &opened);
+        if opened.is_err() {
+            self.what = self.what_at(path, opening.medium, access);
+        }
         opened
     }
 
@@ -89,12 +111,18 @@ impl<'a, const B: usize, R: Files<File = File> + AllocGlobal> Images<B, FileDisk
     fn open_table(&mut self, path: &str) -> Result<File, OpenError> {
         let opened = open_readable(self.rt, place_of(path));
         self.past = self.past.table_opened(path, &opened);
+        if opened.is_err() {
+            self.what = self.what_at(path, Medium::File, Access::Read);
+        }
         opened
     }
 
     fn open_plan(&mut self, path: &str) -> Result<File, OpenError> {
         let opened = open_plain(self.rt, path, Access::Read);
         self.past = self.past.plan_opened(path, &opened);
+        if opened.is_err() {
+            self.what = self.what_at(path, Medium::File, Access::Read);
+        }
         opened
     }
 }

@@ -1,9 +1,11 @@
 //! Tests of what the planner is made of, and of what callers of the library alone can ask for: plans for layouts that they
-//! build, commits of a layout and of another disk's, repairs with their findings, sessions, and commits on a disk of 2^40
+//! build, commits of a layout and of another disk's, also with data, repairs with their findings, sessions, and commits on a disk of 2^40
 //! sectors and on bytes in memory. They stand in a crate of their own, so that what they test isn't proved twice. Commits and
 //! repairs are tried on the built command, and call by call by `test_faults`.
 #[cfg(test)]
 mod built;
+#[cfg(test)]
+mod carried;
 #[cfg(test)]
 mod chains;
 #[cfg(test)]
@@ -12,6 +14,8 @@ mod copies;
 mod huge;
 #[cfg(test)]
 mod layouts;
+#[cfg(test)]
+mod new_mbr;
 #[cfg(test)]
 mod places;
 #[cfg(test)]

@@ -13,10 +13,11 @@ use Rattle.pt_line.specs.CommandLine.{ptab}
 use Rattle.pt_line.specs.declared.line.Job.{Job}
 use Rattle.pt_line.specs.declared.line.Line.{Line}
 use Rattle.pt_line.specs.declared.line.LineError.{LineError}
-use Rattle.pt_line.specs.declared.line.LineError.TheVariants.{NotText, Usage, InUseAlone, Memory}
+use Rattle.pt_line.specs.declared.line.LineError.TheVariants.{NotText, Usage, InUseAlone, TwoForms, PlanWithData, Memory}
 use Rattle.pt_line.specs.declared.line.SectorSize.{SectorSize}
 use Rattle.pt_line.specs.declared.line.SectorSize.TheVariants.{Bytes512, Bytes4096}
-use Rattle.pt_line.specs.Lines.{IsJobBy, IsOpenedAs, IsAloneIn, IsHelp, IsMistake}
+use Rattle.pt_line.specs.Lines.{HasTwoForms, HasTwoFormsIn, IsJobBy, IsOpenedAs, IsAloneIn, IsHelp, IsMistake}
+use Rattle.pt_line.specs.Lines.{PlansWithData, PlansWithDataIn}
 
 -- ---- the command
 pub record IsArg (r : Rule) (a : Arg) : Type 0 where
@@ -87,6 +88,8 @@ abbrev pub IfJob : Text → List Row → Result Job LineError → Type 0
 IfJob name rows (Ok job) = IsJobOrEmpty name rows job
 IfJob name rows (Err NotText) = ⊥
 IfJob name rows (Err InUseAlone) = ⊥
+IfJob name rows (Err TwoForms) = ⊥
+IfJob name rows (Err PlanWithData) = ⊥
 IfJob name rows (Err Memory) = Unit {0}
 IfJob name rows (Err (Usage e)) = ⊥
 
@@ -96,12 +99,15 @@ HasNoJob (Some p) = IsUnknown p.0
 
 abbrev pub IsLineOrEmpty : Option (Text × List Row) → Line → Type 0
 IsLineOrEmpty None line = ⊥
-IsLineOrEmpty (Some p) line = IsJobOrEmpty p.0 p.1 line.job × IsSizeOrLess p.1 line.size × IsOpenedAs p.1 line
+IsLineOrEmpty (Some p) line =
+    IsJobOrEmpty p.0 p.1 line.job × IsSizeOrLess p.1 line.size × IsOpenedAs p.1 line × (¬ HasTwoForms p.1) × (¬ PlansWithData p.1)
 
 abbrev pub MeansJob : Option (Text × List Row) → Result Line LineError → Type 0
 MeansJob met (Ok line) = IsLineOrEmpty met line
 MeansJob met (Err NotText) = ⊥
 MeansJob met (Err InUseAlone) = IsAloneIn met
+MeansJob met (Err TwoForms) = HasTwoFormsIn met
+MeansJob met (Err PlanWithData) = PlansWithDataIn met
 MeansJob met (Err Memory) = Unit {0}
 MeansJob met (Err (Usage e)) = ⊥
 
@@ -110,5 +116,7 @@ abbrev pub Tells : ErrorKind → Result Line LineError → Type 0
 Tells k (Ok line) = ((k ≡ DisplayHelp) ⊎ (k ≡ DisplayVersion)) × IsHelp line.job
 Tells k (Err NotText) = ⊥
 Tells k (Err InUseAlone) = ⊥
+Tells k (Err TwoForms) = ⊥
+Tells k (Err PlanWithData) = ⊥
 Tells k (Err Memory) = (k ≡ OutOfMemory) ⊎ (k ≡ DisplayHelp) ⊎ (k ≡ DisplayVersion)
 Tells k (Err (Usage e)) = (kind_of e ≡ k) × IsMistake k

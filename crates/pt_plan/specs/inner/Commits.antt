@@ -10,7 +10,8 @@ use Rattle.pt_words.specs.declared.error.Refusal.TheVariants as refusal
 use Rattle.pt_members.specs.Tables.{OwnedOf, TableOf}
 use Rattle.pt_check.specs.Answers.{Answers}
 use Rattle.pt_check.specs.declared.answer.Answer.TheVariants.{No}
-use Rattle.pt_cases.specs.Unplanned.{Unplanned}
+use Rattle.pt_cases.specs.NewMbr.{UnplannedBy}
+use Rattle.pt_cases.specs.declared.primary.Primary.{Primary as Choice}
 use Rattle.pt_plan.specs.Batches.{Words, EditedBy}
 use Rattle.pt_plan.specs.declared.error.CommitError.{CommitError}
 use Rattle.pt_plan.specs.declared.error.CommitError.TheVariants.{NoTable, Edit, Plan, Check, Device, Memory}
@@ -46,9 +47,9 @@ NotEdited b n o batch Memory = Unit {0}
 NotEdited b n o batch _ = ⊥
 
 -- why there is no plan
-abbrev pub NotPlanned : ℕ → Sectors → Layout → CommitError → Type 0
-NotPlanned b d l (Plan e) = Unplanned b d l e
-NotPlanned b d l e = IsCommitFailure e
+abbrev pub NotPlanned : Choice → ℕ → Sectors → Layout → CommitError → Type 0
+NotPlanned primary b d l (Plan e) = UnplannedBy primary b d l e
+NotPlanned primary b d l e = IsCommitFailure e
 
 -- the plan is safe
 pub record IsSafe (b : ℕ) (d : Sectors) (phases : List Writes) : Type 0 where

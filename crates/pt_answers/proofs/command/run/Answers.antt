@@ -15,3 +15,11 @@ returns-in_err-size-clause-runs g c =
         (refl, refl, kept _, p.1 ∙ ap (λ e. Err e) p.2),
       ),
     )
+
+pub returns-in_err-line-clause-runs : goal.returns-in_err-line-clause-runs
+returns-in_err-line-clause-runs g c =
+    let p = err_from_is_err_and c.from_residual.result c.from_residual.ensures.1 in (
+      Err c.in_err-line.field-0.0,
+      rw (c.in_err-line.was) at c.read_line.ensures.means,
+      (refl, refl, kept _, p.1 ∙ ap (λ e. Err e) p.2),
+    )

@@ -1,4 +1,4 @@
-use Rattle.std.proofs.Common.{◌∙◌, ap, map, string_bytes, List, ℕ, Option, []}
+use Rattle.std.proofs.Common.{◌∙◌, ap, List, ℕ, Option, []}
 use Rattle.std.specs.Prelude.{unwrap_or}
 use Rattle.std.proofs.lemmas.Result.{IfOk-weaker}
 use Rattle.clap.specs.Words.{found_of}
@@ -13,4 +13,4 @@ returns-in-Some c =
 pub returns-in-None : goal.returns-in-None
 returns-in-None c =
     let v = rw c.in-None.is at (values_are (found_of c.args.matches.now) c.args.id.now c.get_strs.result c.get_strs.ensures) in
-    ap (map string_bytes) c.new.ensures.items ∙ ap (λ (o : Option (List (List ℕ))). unwrap_or o []) v
+    c.new.ensures ∙ ap (λ (o : Option (List (List ℕ))). unwrap_or o []) v

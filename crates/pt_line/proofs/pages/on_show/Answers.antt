@@ -7,4 +7,5 @@ returns c =
     let two = IfOk-weaker c.with_arg-page.result _ _ (λ r takes. takes _ _ one c.after.ensures) c.with_arg-page.ensures in
     let three = IfOk-weaker c.with_arg-page-2.result _ _ (λ r takes. takes _ _ two c.copy.ensures) c.with_arg-page-2.ensures in
     let four = IfOk-weaker c.with_arg-page-3.result _ _ (λ r takes. takes _ _ three c.json.ensures) c.with_arg-page-3.ensures in
-    IfOk-weaker c.on_disk.result _ _ (λ r adds. adds _ four) c.on_disk.ensures
+    let five = IfOk-weaker c.with_arg-page-4.result _ _ (λ r takes. takes _ _ four c.human.ensures) c.with_arg-page-4.ensures in
+    IfOk-weaker c.on_disk.result _ _ (λ r adds. adds _ five) c.on_disk.ensures

@@ -17,7 +17,7 @@ returns-in_err-plan-clause-hides g c =
 pub returns-in_err-plan-clause-err : goal.returns-in_err-plan-clause-err
 returns-in_err-plan-clause-err g c = λ tells.
     let p = err_from_is_err_and c.from_residual.result c.from_residual.ensures.1 in
-    rw (p.1, p.2) (unplanned_told _ _ _ c.in_err-plan.field-0.0 (c.in_err-plan.ensures.err tells))
+    rw (p.1, p.2) (unplanned_told _ _ _ _ c.in_err-plan.field-0.0 (c.in_err-plan.ensures.err tells))
 
 pub returns-in_err-plan-clause-place : goal.returns-in_err-plan-clause-place
 returns-in_err-plan-clause-place g c = λ tells.

@@ -8,14 +8,14 @@ pub returns-in-Plan : goal.returns-in-Plan
 returns-in-Plan g c =
     subst (λ (t : Option (List ℕ)). OnOk c.print_refusal-in-Plan.result (IfSome t (Appends (g.E.Write.contents c.args.err.now)
     (g.E.Write.contents c.print_refusal-in-Plan.new.err))))
-    (ap (λ (n : ℕ). Some (refusal_line (codes "plan") n)) c.from-in-Plan.ensures
+    (ap (λ (n : ℕ). Some (refusal_line (codes "plan") n)) (c.from-in-Plan.ensures ∙ c.number-in-Plan.ensures)
     ∙ ap failure_text (sym c.in-Plan.is)) c.print_refusal-in-Plan.ensures
 
 pub returns-in-Check : goal.returns-in-Check
 returns-in-Check g c =
     subst (λ (t : Option (List ℕ)). OnOk c.print_refusal-in-Check.result (IfSome t (Appends (g.E.Write.contents c.args.err.now)
     (g.E.Write.contents c.print_refusal-in-Check.new.err))))
-    (ap (λ (n : ℕ). Some (refusal_line (codes "check") n)) c.from-in-Check.ensures
+    (ap (λ (n : ℕ). Some (refusal_line (codes "check") n)) (c.from-in-Check.ensures ∙ c.number-in-Check.ensures)
     ∙ ap failure_text (sym c.in-Check.is)) c.print_refusal-in-Check.ensures
 
 pub returns-in-PlanText : goal.returns-in-PlanText
