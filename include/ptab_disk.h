@@ -44,7 +44,7 @@ typedef struct ptab_disk ptab_disk;
 /* How a disk is opened: a sum of these. Without PTAB_DISK_DEVICE it is a plain file, with it a block device; all else is
    refused. A device that is to be written is claimed as the kernel claims it for a mount, so one that is in use is refused.
    The last two say what becomes of a GPT's primary copy in the plans of the disk, those that are carried out too (ptab.h). They
-   aren't given together. Without them an edit and a repair zero its header meanwhile, and an adoption keeps it. */
+   aren't given together. Without them an edit and a repair zero its header meanwhile, and an adoption and ptab_disk_set keep it. */
 enum {
   PTAB_DISK_READ = 0,
   PTAB_DISK_WRITE = 1,        /* for writing, under the exclusive lock of flock(2) until it is closed */
@@ -120,6 +120,13 @@ typedef struct ptab_partition {
 /* The partitions that ptab_disk_members gives, with their texts; `reply.count` is how many. */
 int32_t ptab_disk_list(ptab_disk *disk, ptab_partition *rows, size_t rows_len, ptab_reply *reply);
 
+/* The text of ptab_table_text, for the device of this name, which is a C string. PTAB_DONE: `text` has it with a zero byte
+   behind it, and `reply.count` is its length without that. PTAB_ROOM: `text_len` has to be `reply.count`, the zero byte counted. */
+int32_t ptab_disk_table(ptab_disk *disk, const char *device, char *text, size_t text_len, ptab_reply *reply);
+
+/* The blocks of ptab_free. */
+int32_t ptab_disk_free(ptab_disk *disk, ptab_block *rows, size_t rows_len, ptab_reply *reply);
+
 /*
  * Calls that write, on a disk that was opened with PTAB_DISK_WRITE. With PTAB_DONE the disk is as wanted, and that is durable;
  * `reply.count` is the number of sectors that were written. With PTAB_DEVICE it is that of the sectors that were written, or
@@ -138,6 +145,10 @@ int32_t ptab_disk_repair(ptab_disk *disk, ptab_reply *reply);
    opening of the disk says something, and not that of the other one. */
 int32_t ptab_disk_adopt(ptab_disk *disk, ptab_disk *other, ptab_reply *reply);
 
+/* Gives the disk the table that a text of `text_len` bytes says, as ptab_set_plan has it. `drawn` is as of ptab_disk_edit. */
+int32_t ptab_disk_set(ptab_disk *disk, const char *text, size_t text_len, const uint8_t *drawn, size_t drawn_len,
+                      ptab_reply *reply);
+
 /* Carries out a plan from elsewhere, if ptab_check says yes to it; PTAB_NO and the first reason else. */
 int32_t ptab_disk_apply(ptab_disk *disk, const ptab_write *writes, size_t writes_len, const uint8_t *bytes, size_t bytes_len,
                         ptab_reply *reply);
@@ -150,6 +161,8 @@ int32_t ptab_disk_repair_plan(ptab_disk *disk, ptab_write *writes, size_t writes
                               ptab_reply *reply);
 int32_t ptab_disk_adopt_plan(ptab_disk *disk, ptab_disk *other, ptab_write *writes, size_t writes_len, uint8_t *bytes,
                              size_t bytes_len, ptab_reply *reply);
+int32_t ptab_disk_set_plan(ptab_disk *disk, const char *text, size_t text_len, const uint8_t *drawn, size_t drawn_len,
+                           ptab_write *writes, size_t writes_len, uint8_t *bytes, size_t bytes_len, ptab_reply *reply);
 int32_t ptab_disk_check(ptab_disk *disk, const ptab_write *writes, size_t writes_len, const uint8_t *bytes, size_t bytes_len,
                         ptab_reply *reply);
 

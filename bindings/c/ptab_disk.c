@@ -8,8 +8,8 @@
 #include <stdlib.h>
 #include <sys/random.h>
 
-/* The most GUIDs that words take besides one each: those of a table and of its 128 entries, by `g`. */
-#define MORE_GUIDS 129
+/* The most GUIDs that words take besides one each, by `g`, and those that a table's text takes. */
+#define MORE_GUIDS PTAB_MOST_FRESH
 /* The most writes of a plan that ptab_check takes. */
 #define MOST_CHECKED 4096
 
@@ -31,11 +31,19 @@ struct asked {
   ptab_table *table;
   ptab_member *rows;
   size_t rows_len;
+  ptab_block *blocks;
+  size_t blocks_len;
+  const uint8_t *device; /* the name under which a table's text has it, and room for that text */
+  size_t device_len;
+  uint8_t *text;
+  size_t text_len;
   uint64_t number, k;
   uint8_t letter;
   uint8_t *words, *random;
   size_t words_len, drawn_len;
   const uint8_t *drawn;
+  const uint8_t *set; /* the text of a table that the disk is to take */
+  size_t set_len;
   const ptab_write *given; /* a plan from elsewhere, and its bytes */
   const uint8_t *given_bytes;
   size_t given_len, given_bytes_len;
@@ -88,6 +96,33 @@ static int32_t read_one(struct known *it, uint64_t sector, ptab_reply *reply) {
   return read_sectors(it, sector, 1) == 1 ? PTAB_DONE : said_of(reply, PTAB_DISK_READING, sector);
 }
 
+/* The bytes of a sector that was read, or NULL. */
+static const uint8_t *bytes_of(const struct known *it, uint64_t sector) {
+  for (size_t k = 0; k < it->view.numbers_len; k++)
+    if (it->numbers[k] == sector) return it->bytes + k * it->view.sector_size;
+  return NULL;
+}
+
+/* The bytes of a sector, which is read where it wasn't; NULL where it can't be. */
+static const uint8_t *take_sector(struct known *it, uint64_t sector, ptab_reply *reply, int32_t *status) {
+  if (!bytes_of(it, sector)) *status = read_one(it, sector, reply);
+  return *status == PTAB_DONE ? bytes_of(it, sector) : NULL;
+}
+
+/* Reads what an MBR leads to, so that a call needn't ask for each extended boot record. It ends where the table breaks off, and at the
+   first sector that can't be read: the library asks for that one where the answer rests on it. */
+static int32_t read_mbr(struct known *it, ptab_reply *reply) {
+  struct led led;
+  int32_t status = PTAB_DONE;
+  const uint8_t *sector = bytes_of(it, 0);
+  if (!sector) return PTAB_DONE;
+  ptab_inner_lead(&led, sector, &it->view);
+  while (led.has_next && (sector = take_sector(it, led.next, reply, &status))) ptab_inner_lead_on(&led, sector);
+  for (size_t k = 0; k < led.labels_len && status == PTAB_DONE; k++) take_sector(it, led.labels[k], reply, &status);
+  it->is_settled = led.is_mbr && status == PTAB_DONE;
+  return status == PTAB_MEMORY ? status : PTAB_DONE;
+}
+
 /* Reads a sector that is wanted, and with it all that the table and its labels want, as far as they are known. */
 static int32_t read_wanted(struct known *it, uint64_t sector, ptab_reply *reply) {
   uint64_t more[PTAB_MOST_WANTED];
@@ -111,7 +146,9 @@ static int32_t begin(struct known *it, ptab_disk *disk, int writes, ptab_reply *
   if (status == PTAB_DONE) status = ptab_inner_count(disk, &it->view.sectors, reply);
   if (status != PTAB_DONE) return status;
   it->buffer = ptab_inner_buffer();
-  return it->buffer ? read_ends(it, reply) : no_memory(reply);
+  if (!it->buffer) return no_memory(reply);
+  status = read_ends(it, reply);
+  return status == PTAB_DONE ? read_mbr(it, reply) : status;
 }
 
 /* asking */
@@ -182,6 +219,14 @@ static int32_t call_members(struct asked *it, ptab_reply *reply) {
   return ptab_members(&it->known.view, it->table, it->rows, it->rows_len, reply);
 }
 
+static int32_t call_table(struct asked *it, ptab_reply *reply) {
+  return ptab_table_text(&it->known.view, it->device, it->device_len, it->text, it->text_len, reply);
+}
+
+static int32_t call_free(struct asked *it, ptab_reply *reply) {
+  return ptab_free(&it->known.view, it->blocks, it->blocks_len, reply);
+}
+
 static int32_t call_verify(struct asked *it, ptab_reply *reply) { return ptab_verify(&it->known.view, reply); }
 
 static int32_t call_locate(struct asked *it, ptab_reply *reply) {
@@ -191,6 +236,11 @@ static int32_t call_locate(struct asked *it, ptab_reply *reply) {
 static int32_t call_plan(struct asked *it, ptab_reply *reply) {
   return ptab_plan(&it->known.view, it->words, it->words_len, it->drawn, it->drawn_len, it->writes, it->writes_len, it->bytes,
                    it->bytes_len, reply);
+}
+
+static int32_t call_set(struct asked *it, ptab_reply *reply) {
+  return ptab_set_plan(&it->known.view, it->set, it->set_len, it->drawn, it->drawn_len, it->writes, it->writes_len, it->bytes,
+                       it->bytes_len, reply);
 }
 
 static int32_t call_repair(struct asked *it, ptab_reply *reply) {
@@ -217,6 +267,20 @@ static int32_t call_refusing(struct asked *it, ptab_reply *reply) {
 
 int32_t ptab_disk_members(ptab_disk *disk, ptab_table *table, ptab_member *rows, size_t rows_len, ptab_reply *reply) {
   struct asked it = {.call = call_members, .table = table, .rows = rows, .rows_len = rows_len};
+  return done_with(&it, ask(&it, disk, 0, reply), reply);
+}
+
+int32_t ptab_disk_table(ptab_disk *disk, const char *device, char *text, size_t text_len, ptab_reply *reply) {
+  struct asked it = {.call = call_table, .device = (const uint8_t *)device, .device_len = strlen(device), .text = (uint8_t *)text,
+                     .text_len = text_len > 0 ? text_len - 1 : 0};
+  int32_t status = done_with(&it, ask(&it, disk, 0, reply), reply);
+  if (status == PTAB_DONE) text[reply->count] = 0;
+  if (status == PTAB_ROOM) reply->count++; /* for the zero byte */
+  return status;
+}
+
+int32_t ptab_disk_free(ptab_disk *disk, ptab_block *rows, size_t rows_len, ptab_reply *reply) {
+  struct asked it = {.call = call_free, .blocks = rows, .blocks_len = rows_len};
   return done_with(&it, ask(&it, disk, 0, reply), reply);
 }
 
@@ -324,6 +388,21 @@ int32_t ptab_disk_adopt(ptab_disk *disk, ptab_disk *other, ptab_reply *reply) {
   return done_with(&it, change(&it, disk, reply), reply);
 }
 
+/* A call for the table of a text, with random bytes where there are none. */
+static int32_t ready_to_set(struct asked *it, const char *text, size_t text_len, ptab_reply *reply) {
+  it->call = call_set;
+  it->set = (const uint8_t *)text;
+  it->set_len = text_len;
+  return it->drawn ? PTAB_DONE : draw(it, 0, reply);
+}
+
+int32_t ptab_disk_set(ptab_disk *disk, const char *text, size_t text_len, const uint8_t *drawn, size_t drawn_len,
+                      ptab_reply *reply) {
+  struct asked it = {.drawn = drawn, .drawn_len = drawn_len, .owns_room = 1};
+  int32_t status = ready_to_set(&it, text, text_len, reply);
+  return done_with(&it, status == PTAB_DONE ? change(&it, disk, reply) : status, reply);
+}
+
 int32_t ptab_disk_plan(ptab_disk *disk, const char *const *words, size_t words_len, const uint8_t *drawn, size_t drawn_len,
                        ptab_write *writes, size_t writes_len, uint8_t *bytes, size_t bytes_len, ptab_reply *reply) {
   struct asked it = {.call = call_plan, .drawn = drawn, .drawn_len = drawn_len, .writes = writes, .writes_len = writes_len,
@@ -343,6 +422,14 @@ int32_t ptab_disk_adopt_plan(ptab_disk *disk, ptab_disk *other, ptab_write *writ
   struct asked it = {.call = call_adopt, .other = {.disk = other}, .writes = writes, .writes_len = writes_len, .bytes = bytes,
                      .bytes_len = bytes_len};
   return done_with(&it, ask(&it, disk, 0, reply), reply);
+}
+
+int32_t ptab_disk_set_plan(ptab_disk *disk, const char *text, size_t text_len, const uint8_t *drawn, size_t drawn_len,
+                           ptab_write *writes, size_t writes_len, uint8_t *bytes, size_t bytes_len, ptab_reply *reply) {
+  struct asked it = {.drawn = drawn, .drawn_len = drawn_len, .writes = writes, .writes_len = writes_len, .bytes = bytes,
+                     .bytes_len = bytes_len};
+  int32_t status = ready_to_set(&it, text, text_len, reply);
+  return done_with(&it, status == PTAB_DONE ? ask(&it, disk, 0, reply) : status, reply);
 }
 
 /* Whether a plan has more writes than one may have, and has nothing that ptab_check tells before that. */

@@ -62,6 +62,26 @@ static inline int32_t ended(int32_t status, const ptab_reply *reply) {
   return status;
 }
 
+/* where an MBR leads (ptab_disk_mbr.c) */
+
+/* How far an MBR was followed. */
+struct led {
+  uint64_t sectors;                  /* of the disk */
+  int is_mbr;                        /* whether its sector 0 is that of an MBR disk */
+  int has_labels;                    /* whether slices have labels: with sectors of 4096 bytes there are no slices */
+  uint64_t first, last;              /* the extended partition's */
+  int has_next, records;             /* whether there is an extended boot record to be read; how many there were, that one too */
+  uint64_t next;                     /* where it stands */
+  uint64_t labels[PTAB_MOST_WANTED]; /* those of slices, up to there; none where the table breaks off */
+  size_t labels_len;
+};
+
+/* Begins at sector 0 of a disk, of which the view says how many sectors it has, and of which size. */
+INNER void ptab_inner_lead(struct led *it, const uint8_t *sector, const ptab_view *disk);
+
+/* Goes on by the bytes of the extended boot record that is next. */
+INNER void ptab_inner_lead_on(struct led *it, const uint8_t *sector);
+
 /* calls of the system */
 
 /* What each call begins with: whether it may be made. The next reads come from the medium, as far as the system can do that. */

@@ -121,6 +121,13 @@ static const char *const adoptions[] = {
     "the other disk has another number of sectors",
 };
 
+static const char *const keys[] = {
+    NULL, "text", "partitiontable", "unknown", "label", "device", "unit", "sectorsize", "sectors", "id", "firstlba",
+    "lastlba", "entries", "table-length", "partitions", "chain", "number", "node", "start", "size", "last", "offset",
+    "type", "type_name", "uuid", "name", "name_units", "attributes", "attrs", "bootable", "boot", "start_chs",
+    "end_chs", "record", "bsd",
+};
+
 static const char *const arguments[] = {
     NULL,
     "the sector size is neither 512 nor 4096",
@@ -132,6 +139,7 @@ static const char *const arguments[] = {
     "the other disk has sectors of another size",
     "the other view's bytes aren't a whole sector for each of its numbers, its primary is more than 2, or its disk has 2^64 bytes "
     "or more",
+    "the device's name or the table's text isn't UTF-8",
 };
 
 static const char *const disks[] = {
@@ -168,6 +176,7 @@ static const struct {
     [PTAB_ABOUT_REPAIR] = {repairs, sizeof repairs / sizeof *repairs},
     [PTAB_ABOUT_ADOPT] = {adoptions, sizeof adoptions / sizeof *adoptions},
     [PTAB_ABOUT_OTHER_TABLE] = {tables, sizeof tables / sizeof *tables},
+    [PTAB_ABOUT_TEXT] = {keys, sizeof keys / sizeof *keys},
     [PTAB_ABOUT_DISK] = {disks, sizeof disks / sizeof *disks},
     [PTAB_ABOUT_OTHER_DISK] = {disks, sizeof disks / sizeof *disks},
 };
@@ -255,7 +264,7 @@ static const char *sentence_alone(int32_t status) {
     case PTAB_MEMORY: return "out of memory";
     case PTAB_WANT: return "sector {s} is wanted";
     case PTAB_WANT_OTHER: return "sector {s} of the other disk is wanted";
-    case PTAB_ROOM: return "a buffer is too small: it takes {n} rows or writes";
+    case PTAB_ROOM: return "a buffer is too small: it takes {n} rows, writes or bytes";
     default: return "no status of this library";
   }
 }
@@ -281,6 +290,7 @@ static const char *before(int32_t status, const ptab_reply *r) {
     case PTAB_ABOUT_OTHER_TABLE:
     case PTAB_ABOUT_OTHER_DISK: return "the other disk: ";
     case PTAB_ABOUT_WORD: return "word {a}: ";
+    case PTAB_ABOUT_TEXT: return r->a ? "object {a} of `partitions` has a fault at `" : "the table's text has a fault at `";
     case PTAB_ABOUT_CHECK: return status == PTAB_REFUSED ? "the plan is refused: " : "";
     default: return "";
   }
@@ -291,6 +301,7 @@ size_t ptab_message(int32_t status, const ptab_reply *reply, char *text, size_t 
   const char *sentence = sentence_of(reply);
   if (sentence) put_sentence(&it, before(status, reply), reply);
   put_sentence(&it, sentence ? sentence : sentence_alone(status), reply);
+  if (sentence && reply->about == PTAB_ABOUT_TEXT) put(&it, "`", 1);
   if (status == PTAB_DEVICE) put_error(&it, reply);
   return ended(&it);
 }

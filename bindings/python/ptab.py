@@ -1,4 +1,4 @@
-"""Partition tables of images and block devices: what they say, and checked edits and repairs.
+"""Partition tables of images and block devices: what they say, also as text, and checked edits and repairs.
 
     with ptab.Disk("disk.img", write=True) as disk:
         for partition in disk.table().partitions:
@@ -10,20 +10,27 @@ one on the disk. The module calls the library's ptab_disk.h by ctypes; docs/c.md
 from __future__ import annotations
 
 import ctypes as c
+import json
 import operator
 import os
 import uuid
 from pathlib import Path
-from typing import Iterable, NamedTuple, Optional, Sequence, Union
+from typing import Any, Iterable, NamedTuple, Optional, Sequence, Union
 
-__all__ = ["BadArgument", "DeviceFault", "Disk", "Error", "Locked", "NoMemory", "NoTable", "Partition", "Plan", "Refused", "Table",
-           "Verdict", "Write", "load"]
+__all__ = ["BadArgument", "DeviceFault", "Disk", "Error", "FreeBlock", "Locked", "NoMemory", "NoTable", "Partition", "Plan", "Refused",
+           "Table", "TextFault", "Verdict", "Write", "load"]
 
 DONE, NO, USAGE, REFUSED, NO_TABLE, DEVICE, MEMORY, ROOM = 0, 1, 2, 3, 4, 5, 6, -2
 VERSION, MOST_MEMBERS, MOST_WRITES, GPT = 2, 1056, 264, 2
 WRITE, UNLOCKED, IS_DEVICE, KEEP_PRIMARY, BY_TABLE = 1, 2, 4, 8, 16
-ABOUT_DISK, LOCKED = 64, 7
+MOST_BLOCKS, TEXT_ROOM = 512, 16384
+ABOUT_DISK, LOCKED, ABOUT_TEXT = 64, 7, 11
 ABOUT_ARGUMENT, ARGUMENT_SIZE, ARGUMENT_PARTITION, ARGUMENT_PLAN = 1, 1, 3, 6
+# where a table's text has a fault, from 1 on (include/ptab.h)
+KEYS = ("text", "partitiontable", "unknown", "label", "device", "unit", "sectorsize", "sectors", "id", "firstlba", "lastlba",
+        "entries", "table-length", "partitions", "chain", "number", "node", "start", "size", "last", "offset", "type",
+        "type_name", "uuid", "name", "name_units", "attributes", "attrs", "bootable", "boot", "start_chs", "end_chs", "record",
+        "bsd")
 
 
 class _Reply(c.Structure):
@@ -43,6 +50,10 @@ class _Member(c.Structure):
 
 class _Write(c.Structure):
     _fields_ = [("sector", c.c_uint64), ("phase", c.c_uint64)]
+
+
+class _Block(c.Structure):
+    _fields_ = [("first", c.c_uint64), ("last", c.c_uint64), ("inside", c.c_uint64)]
 
 
 class Write(NamedTuple):
@@ -94,6 +105,15 @@ class Refused(Error):
 
 class Locked(Refused, BlockingIOError):
     """The disk's lock is held elsewhere."""
+
+
+class TextFault(Refused, ValueError):
+    """The first fault of a table's text: at the name `key`, of object `part` of `partitions`, counted from 1, or None."""
+
+    def __init__(self, status: int, reply: _Reply, sentence: str):
+        super().__init__(status, reply, sentence)
+        self.key = KEYS[reply.number - 1] if 0 < reply.number <= len(KEYS) else ""
+        self.part = reply.a or None
 
 
 class NoTable(Error):
@@ -151,6 +171,13 @@ class Partition(NamedTuple):
         return f"{self.number}.{self.letter}" if self.letter else str(self.number)
 
 
+class FreeBlock(NamedTuple):
+    """A block of free sectors: as long as can be."""
+    first: int
+    last: int
+    inside: Optional[int]  # the number of the extended partition or of the slice that it lies inside
+
+
 class Table(NamedTuple):
     """What stands on a disk."""
     kind: str  # "gpt" or "mbr"
@@ -168,7 +195,9 @@ _CALLS = {
     "ptab_disk_locate": [_P, _U64, _U8, _U64, _P], "ptab_disk_edit": [_P, _P, _S, _P, _S, _P], "ptab_disk_repair": [_P, _P],
     "ptab_disk_adopt": [_P, _P, _P], "ptab_disk_apply": [_P, _P, _S, _P, _S, _P], "ptab_disk_check": [_P, _P, _S, _P, _S, _P],
     "ptab_disk_plan": [_P, _P, _S, _P, _S, _P, _S, _P, _S, _P], "ptab_disk_repair_plan": [_P, _P, _S, _P, _S, _P],
-    "ptab_disk_adopt_plan": [_P, _P, _P, _S, _P, _S, _P], "ptab_type_code": [_P], "ptab_version": []}
+    "ptab_disk_adopt_plan": [_P, _P, _P, _S, _P, _S, _P], "ptab_disk_table": [_P, c.c_char_p, _P, _S, _P],
+    "ptab_disk_set": [_P, c.c_char_p, _S, _P, _S, _P], "ptab_disk_set_plan": [_P, c.c_char_p, _S, _P, _S, _P, _S, _P, _S, _P],
+    "ptab_disk_free": [_P, _P, _S, _P], "ptab_type_code": [_P], "ptab_version": []}
 _library: Optional[c.CDLL] = None
 
 
@@ -207,6 +236,8 @@ def _fail(library: c.CDLL, status: int, reply: _Reply) -> Error:
     kind = _ERRORS.get(status, Error)
     if status == REFUSED and (reply.about, reply.number) == (ABOUT_DISK, LOCKED):
         kind = Locked
+    if status == REFUSED and reply.about == ABOUT_TEXT:
+        kind = TextFault
     return kind(status, reply, _sentence(library, status, reply))
 
 
@@ -215,7 +246,8 @@ class Disk:
     lock. `path` may be a descriptor, which stays open. A device has a sector size of its own; an image has 512 where none is told.
 
     With `keep_primary` its plans keep the primary copy of a GPT: who reads that copy alone finds the old table or the new one wherever one
-    stops. With `keep_primary=False` they zero its header meanwhile. Where it isn't told, `edit` and `repair` zero it, and `adopt` keeps it.
+    stops. With `keep_primary=False` they zero its header meanwhile. Where it isn't told, `edit` and `repair` zero it, and `adopt` and `set`
+    keep it.
 
     Threads take turns with a disk: its calls, `close` among them, come one after the other. A forked process may close it, which leaves
     the lock to the process that opened it; all else is a BadArgument there."""
@@ -295,6 +327,31 @@ class Disk:
         return Partition(row.number, chr(row.letter) if row.letter else "", row.first, row.last, kind, units.partition("\0")[0],
                          uuid.UUID(bytes_le=bytes(row.unique)) if is_entry else None, row.attributes, row.boot)
 
+    def text(self, device: Optional[str] = None) -> str:
+        """The whole table as a text of JSON, as `ptab show --json` prints it, but for the line's end behind it. `device` is the name that
+        stands there; without it that is the path."""
+        name, count = _name(self._path if device is None else device), TEXT_ROOM
+        while True:
+            text = c.create_string_buffer(count)
+            status, reply = self._call("table", name, text, count, allowed=(DONE, ROOM))
+            if status == DONE:
+                return text.raw[:reply.count].decode()
+            count = reply.count
+
+    def json(self, device: Optional[str] = None) -> dict[str, Any]:
+        """The same as an object, which `set` takes too: its one member is `partitiontable`."""
+        return json.loads(self.text(device))
+
+    def free(self) -> list[FreeBlock]:
+        """The blocks of free sectors where a new partition may lie, as `ptab free` has them."""
+        count = MOST_BLOCKS
+        while True:
+            rows = (_Block * count)()
+            status, reply = self._call("free", rows, count, allowed=(DONE, ROOM))
+            if status == DONE:
+                return [FreeBlock(row.first, row.last, row.inside or None) for row in rows[:reply.count]]
+            count = reply.count
+
     def verify(self) -> Verdict:
         """Whether the disk is healthy, or the first finding."""
         return self._verdict(*self._call("verify", allowed=(DONE, NO)))
@@ -323,6 +380,12 @@ class Disk:
         """Gives the disk the layout that another one denotes: how many sectors were written."""
         return self._call("adopt", other._open("the other disk"))[1].count
 
+    def set(self, table: Union[str, dict[str, Any]], drawn: Optional[bytes] = None) -> int:
+        """Gives the disk the table that a text of JSON says, or an object as that of `json`: how many sectors were written. What it leaves
+        out is chosen (docs/table.md), and partitions that it doesn't have are removed. Its first fault is a TextFault. `drawn` is as of
+        `edit`."""
+        return self._call("set", *_text(table, drawn))[1].count
+
     def apply(self, plan: Plan) -> int:
         """Carries out a plan from elsewhere, if `check` says yes to it: how many sectors were written."""
         return self._call("apply", *_given(plan, self.size()[1]))[1].count
@@ -342,6 +405,10 @@ class Disk:
     def adopt_plan(self, other: Disk) -> Plan:
         """The plan that gives the disk the layout of another one."""
         return self._plan("adopt_plan", other._open("the other disk"))
+
+    def set_plan(self, table: Union[str, dict[str, Any]], drawn: Optional[bytes] = None) -> Plan:
+        """The plan of `set`."""
+        return self._plan("set_plan", *_text(table, drawn))
 
     def _plan(self, name: str, *arguments: object) -> Plan:
         size, count = self.size()[1], MOST_WRITES
@@ -374,6 +441,21 @@ def _words(words: Sequence[str], drawn: Optional[bytes]) -> tuple[object, ...]:
     texts = (c.c_char_p * max(1, len(words)))(*[word.encode() for word in words])
     data = None if drawn is None else _bytes(drawn)
     return texts, len(words), data, len(data or b"")
+
+
+def _name(device: Union[str, os.PathLike, int]) -> bytes:
+    """A device's name, which a text holds: a path, or the number of a descriptor."""
+    name = str(device) if isinstance(device, int) else os.fsdecode(device)
+    if "\0" in name:
+        raise _bad("the device's name has a zero byte")
+    return name.encode("utf-8", "replace")
+
+
+def _text(table: Union[str, dict[str, Any]], drawn: Optional[bytes]) -> tuple[object, ...]:
+    """A table's text and random bytes as arguments."""
+    text = (table if isinstance(table, str) else json.dumps(table)).encode("utf-8", "surrogatepass")
+    data = None if drawn is None else _bytes(drawn)
+    return text, len(text), data, len(data or b"")
 
 
 def _given(plan: Plan, size: int) -> tuple[object, ...]:

@@ -1,12 +1,14 @@
 /*
- * A small `ptab` over the library: shows an image, verifies it, locates a sector, edits, repairs, adopts. Reading, locking
- * and writing by phases are the library's part (ptab_disk.h); what stands here reads the words and prints the answers.
+ * A small `ptab` over the library: shows an image, also as JSON, verifies it, locates a sector, lists free blocks, edits,
+ * repairs, adopts, sets the table of a text. Reading, locking and writing by phases are the library's part (ptab_disk.h); what
+ * stands here reads the words and prints the answers.
  *
- *   ptab_c IMAGE SIZE show | verify | repair | locate NUMBER[.LETTER] K | edit WORD... | adopt OTHER
+ *   ptab_c IMAGE SIZE show [--json] | verify | repair | locate NUMBER[.LETTER] K | free | edit WORD... | adopt OTHER | set TABLE
  *
  * SIZE is 512 or 4096; or `device`, and IMAGE is a block device. Statuses are those of `ptab`. Build:
  *   cc -Iinclude examples/c/ptab.c libptab.a -o ptab_c
  */
+#include <errno.h>
 #include <stdio.h>
 #include <stdlib.h>
 #include <string.h>
@@ -34,6 +36,16 @@ static void complain_of_table(const ptab_reply *r) {
     fputs(r->number == 3 ? "no table: two extended\n" : "no table: too small\n", stderr);
 }
 
+/* Says where a table's text has its first fault, as `ptab` does: the name stands between marks in the library's sentence. */
+static void complain_of_text(int status, const ptab_reply *r) {
+  char text[256];
+  ptab_message(status, r, text, sizeof text);
+  text[strlen(text) - 1] = 0;
+  fprintf(stderr, "refused: table %s", strrchr(text, '`') + 1);
+  if (r->a) fprintf(stderr, " %llu", (wide)r->a);
+  fputs("\n", stderr);
+}
+
 /* Says why there is no answer, as `ptab` does; `words` are the `count` words that were asked for. What `ptab` has no words
    for, the library has. */
 static void complain(int status, const ptab_reply *r, char **words, int count) {
@@ -50,6 +62,8 @@ static void complain(int status, const ptab_reply *r, char **words, int count) {
     complain_of_table(r);
   else if (r->about == PTAB_ABOUT_ADOPT)
     fputs("refused: other size\n", stderr);
+  else if (r->about == PTAB_ABOUT_TEXT)
+    complain_of_text(status, r);
   else if (status == PTAB_REFUSED && r->about <= PTAB_ABOUT_REPAIR)
     fprintf(stderr, "refused: %s %u\n", kinds[r->about], (unsigned)r->number);
   else if (status == PTAB_REFUSED && r->number == PTAB_DISK_LOCKED)
@@ -99,6 +113,44 @@ static int show(ptab_disk *disk, ptab_reply *reply) {
   return PTAB_DONE;
 }
 
+/* Prints the table as JSON, in as much room as it takes. */
+static int show_json(ptab_disk *disk, const char *image, ptab_reply *reply) {
+  char *text = NULL;
+  size_t size = 0;
+  int status;
+  do {
+    size = size ? (size_t)reply->count : 4096;
+    free(text);
+    text = malloc(size);
+    status = text ? ptab_disk_table(disk, image, text, size, reply) : PTAB_MEMORY;
+  } while (status == PTAB_ROOM);
+  if (status == PTAB_DONE) puts(text);
+  free(text);
+  return status;
+}
+
+/* Prints the blocks of free sectors. */
+static int show_free(ptab_disk *disk, ptab_reply *reply) {
+  ptab_block *rows = NULL;
+  size_t count = 0;
+  int status;
+  do {
+    count = count ? (size_t)reply->count : 16;
+    free(rows);
+    rows = malloc(count * sizeof *rows);
+    status = rows ? ptab_disk_free(disk, rows, count, reply) : PTAB_MEMORY;
+  } while (status == PTAB_ROOM);
+  for (uint64_t k = 0; status == PTAB_DONE && k < reply->count; k++) {
+    printf("%llu %llu", (wide)rows[k].first, (wide)rows[k].last);
+    if (rows[k].inside) printf(" %llu", (wide)rows[k].inside);
+    puts("");
+  }
+  free(rows);
+  if (status != PTAB_DONE || reply->count > 0) return status;
+  puts("none");
+  return PTAB_NO;
+}
+
 static int verify(ptab_disk *disk, ptab_reply *reply) {
   char a[32], b[32];
   int status = ptab_disk_verify(disk, reply);
@@ -133,17 +185,45 @@ static int locate(ptab_disk *disk, char **words, ptab_reply *reply) {
   return status;
 }
 
-/* Edits by words. Random bytes are the system's, or those of the file that PTAB_RANDOM names. */
-static int edit(ptab_disk *disk, char **words, int count, ptab_reply *reply) {
-  uint8_t drawn[256 * 16];
+/* Reads a file, of which there are so many bytes at most. */
+static int read_file(const char *path, void *bytes, size_t most, size_t *got) {
+  FILE *file = fopen(path, "rb");
+  if (!file) return errno == ENOMEM ? PTAB_MEMORY : PTAB_DEVICE;
+  *got = fread(bytes, 1, most, file);
+  int failed = ferror(file);
+  fclose(file);
+  return failed ? PTAB_DEVICE : PTAB_DONE;
+}
+
+#define DRAWN (256 * 16)
+
+/* Random bytes: those of the file that PTAB_RANDOM names; or none, and the library draws them. */
+static int draw(uint8_t *bytes, const uint8_t **drawn) {
   const char *path = getenv("PTAB_RANDOM");
-  if (path) {
-    FILE *file = fopen(path, "rb");
-    size_t got = file ? fread(drawn, 1, sizeof drawn, file) : 0;
-    if (file) fclose(file);
-    if (got != sizeof drawn) return PTAB_DEVICE;
-  }
-  return ptab_disk_edit(disk, (const char *const *)words, (size_t)count, path ? drawn : NULL, sizeof drawn, reply);
+  size_t got = DRAWN;
+  int status = path ? read_file(path, bytes, DRAWN, &got) : PTAB_DONE;
+  *drawn = path ? bytes : NULL;
+  return got == DRAWN ? status : PTAB_DEVICE;
+}
+
+/* Edits by words. */
+static int edit(ptab_disk *disk, char **words, int count, ptab_reply *reply) {
+  uint8_t bytes[DRAWN];
+  const uint8_t *drawn;
+  int status = draw(bytes, &drawn);
+  if (status != PTAB_DONE) return status;
+  return ptab_disk_edit(disk, (const char *const *)words, (size_t)count, drawn, DRAWN, reply);
+}
+
+/* Gives the disk the table that the text in a file says. */
+static int set(ptab_disk *disk, const char *path, ptab_reply *reply) {
+  static char text[8 << 20];
+  uint8_t bytes[DRAWN];
+  const uint8_t *drawn;
+  size_t length;
+  int status = draw(bytes, &drawn);
+  if (status == PTAB_DONE) status = read_file(path, text, sizeof text, &length);
+  return status == PTAB_DONE ? ptab_disk_set(disk, text, length, drawn, DRAWN, reply) : status;
 }
 
 /* Gives the disk the layout of another image. */
@@ -163,17 +243,26 @@ static int adopt(ptab_disk *disk, const char *path, ptab_reply *reply) {
 }
 
 static int is_job(const char *job, int argc) {
-  return !strcmp(job, "show") || !strcmp(job, "verify") || !strcmp(job, "repair") || (!strcmp(job, "locate") && argc == 6) ||
-         (!strcmp(job, "edit") && argc > 4) || (!strcmp(job, "adopt") && argc == 5);
+  return !strcmp(job, "show") || !strcmp(job, "verify") || !strcmp(job, "repair") || !strcmp(job, "free") ||
+         (!strcmp(job, "locate") && argc == 6) || (!strcmp(job, "edit") && argc > 4) || (!strcmp(job, "adopt") && argc == 5) ||
+         (!strcmp(job, "set") && argc == 5);
 }
 
-static int run(ptab_disk *disk, const char *job, char **words, int count, ptab_reply *reply) {
+static int changes(const char *job) {
+  return !strcmp(job, "edit") || !strcmp(job, "repair") || !strcmp(job, "adopt") || !strcmp(job, "set");
+}
+
+static int run(ptab_disk *disk, const char *image, const char *job, char **words, int count, ptab_reply *reply) {
+  if (!strcmp(job, "show") && count > 0) return show_json(disk, image, reply);
   if (!strcmp(job, "show")) return show(disk, reply);
   if (!strcmp(job, "verify")) return verify(disk, reply);
   if (!strcmp(job, "locate")) return locate(disk, words, reply);
+  if (!strcmp(job, "free")) return show_free(disk, reply);
   int status;
   if (!strcmp(job, "edit"))
     status = edit(disk, words, count, reply);
+  else if (!strcmp(job, "set"))
+    status = set(disk, words[0], reply);
   else
     status = !strcmp(job, "adopt") ? adopt(disk, words[0], reply) : ptab_disk_repair(disk, reply);
   if (status == PTAB_DONE) puts("done");
@@ -186,14 +275,14 @@ int main(int argc, char **argv) {
   const char *job = argc > 3 ? argv[3] : "";
   int is_device = argc > 2 && !strcmp(argv[2], "device");
   uint32_t size = argc > 2 && !is_device ? (uint32_t)strtoul(argv[2], NULL, 10) : 0;
-  int writes = !strcmp(job, "edit") || !strcmp(job, "repair") || !strcmp(job, "adopt");
-  uint32_t how = (writes ? PTAB_DISK_WRITE : PTAB_DISK_READ) | (is_device ? PTAB_DISK_DEVICE : 0);
+  uint32_t how = (changes(job) ? PTAB_DISK_WRITE : PTAB_DISK_READ) | (is_device ? PTAB_DISK_DEVICE : 0);
   if ((size != 512 && size != 4096 && !is_device) || !is_job(job, argc) || ptab_version() != PTAB_VERSION) {
-    fputs("usage: ptab_c IMAGE SIZE show | verify | repair | locate NUMBER[.LETTER] K | edit WORD... | adopt OTHER\n", stderr);
+    fputs("usage: ptab_c IMAGE SIZE show [--json] | verify | repair | locate NUMBER[.LETTER] K | free | edit WORD... | adopt OTHER | "
+          "set TABLE\n", stderr);
     return PTAB_USAGE;
   }
   int status = ptab_disk_open(argv[1], how, size, &disk, &reply);
-  if (status == PTAB_DONE) status = run(disk, job, argv + 4, argc - 4, &reply);
+  if (status == PTAB_DONE) status = run(disk, argv[1], job, argv + 4, argc - 4, &reply);
   if (status != PTAB_DONE && status != PTAB_NO) complain(status, &reply, argv + 4, argc - 4);
   ptab_disk_close(disk);
   return status < 0 ? PTAB_USAGE : status;

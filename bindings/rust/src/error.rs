@@ -1,6 +1,7 @@
 //! Why a call has no answer, and answers that are a no.
 
 use crate::sys::{self, RawReply};
+use crate::text::TextFault;
 use std::ffi::c_char;
 use std::fmt;
 use std::io;
@@ -15,6 +16,8 @@ pub enum ErrorKind {
     Refused,
     /// The disk's lock is held elsewhere.
     Locked,
+    /// A table's text has a fault: nothing was written. [`Error::fault`] says where.
+    Text,
     /// The disk has no table that can be read.
     NoTable,
     /// The disk can't be opened, read or written.
@@ -32,12 +35,14 @@ pub struct Error {
     reason: Reason,
     written: u64,
     errno: Option<i32>,
+    fault: Option<TextFault>,
 }
 
 impl Error {
     pub(crate) fn new(status: i32, reply: &RawReply) -> Error {
         let kind = match status {
             sys::NO | sys::REFUSED if (reply.about, reply.number) == (sys::ABOUT_DISK, sys::LOCKED) => ErrorKind::Locked,
+            sys::NO | sys::REFUSED if reply.about == sys::ABOUT_TEXT => ErrorKind::Text,
             sys::NO | sys::REFUSED => ErrorKind::Refused,
             sys::NO_TABLE => ErrorKind::NoTable,
             sys::DEVICE => ErrorKind::Device,
@@ -46,7 +51,8 @@ impl Error {
         };
         let failed = status == sys::DEVICE;
         let errno = if failed { i32::try_from(reply.b).ok() } else { None };
-        Error { kind, reason: Reason::new(status, reply), written: if failed { reply.count } else { 0 }, errno }
+        let written = if failed { reply.count } else { 0 };
+        Error { kind, reason: Reason::new(status, reply), written, errno, fault: TextFault::new(status, reply) }
     }
 
     /// Of a plan that the library isn't given, with the numbers that it has for one.
@@ -58,7 +64,7 @@ impl Error {
 
     pub(crate) fn told(kind: ErrorKind, sentence: &str) -> Error {
         let reason = Reason { about: 0, number: 0, a: 0, b: 0, sentence: sentence.to_string() };
-        Error { kind, reason, written: 0, errno: None }
+        Error { kind, reason, written: 0, errno: None, fault: None }
     }
 
     pub(crate) fn system(why: &io::Error) -> Error {
@@ -72,6 +78,11 @@ impl Error {
     /// The numbers of it, as docs/c.md has them.
     pub fn reason(&self) -> &Reason {
         &self.reason
+    }
+
+    /// Where a table's text has its first fault.
+    pub fn fault(&self) -> Option<TextFault> {
+        self.fault
     }
 
     /// How many sectors may have been written: 0 says that nothing was.
@@ -97,7 +108,7 @@ impl From<Error> for io::Error {
     fn from(error: Error) -> io::Error {
         let kind = match (error.kind, error.errno) {
             (_, Some(errno)) => io::Error::from_raw_os_error(errno).kind(),
-            (ErrorKind::BadArgument, _) => io::ErrorKind::InvalidInput,
+            (ErrorKind::BadArgument | ErrorKind::Text, _) => io::ErrorKind::InvalidInput,
             (ErrorKind::NoTable, _) => io::ErrorKind::InvalidData,
             (ErrorKind::Locked, _) => io::ErrorKind::WouldBlock,
             (ErrorKind::Memory, _) => io::ErrorKind::OutOfMemory,

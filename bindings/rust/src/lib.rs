@@ -1,4 +1,4 @@
-//! Partition tables of images and block devices: what they say, and checked edits and repairs.
+//! Partition tables of images and block devices: what they say, also as text, and checked edits and repairs.
 //!
 //! ```no_run
 //! let mut disk = ptab::Options::new().write(true).open("disk.img")?;
@@ -16,9 +16,11 @@
 mod error;
 mod sys;
 mod table;
+mod text;
 
 pub use error::{Error, ErrorKind, Reason, Verdict};
-pub use table::{Guid, Partition, Table, TableKind};
+pub use table::{FreeBlock, Guid, Partition, Table, TableKind};
+pub use text::{Key, TextFault};
 
 use std::ffi::{c_char, CString};
 use std::os::fd::{AsFd, AsRawFd, OwnedFd};
@@ -70,7 +72,8 @@ impl Options {
     }
 
     /// Whether plans keep the primary copy of a GPT: with yes, who reads that copy alone finds the old table or the new one wherever one
-    /// stops; with no, its header is zeroed meanwhile. Where it isn't said, an edit and a repair zero it, and an adoption keeps it.
+    /// stops; with no, its header is zeroed meanwhile. Where it isn't said, an edit and a repair zero it, and an adoption and
+    /// [`Disk::set`] keep it.
     pub fn keep_primary(&mut self, keep: bool) -> &mut Options {
         self.set(sys::KEEP_PRIMARY, keep).set(sys::BY_TABLE, !keep)
     }
@@ -201,6 +204,41 @@ impl Disk {
         Ok(Table::new(&table, &rows[..reply.count as usize]))
     }
 
+    /// The whole table as a text of JSON, as `ptab show --json` prints it for a device of this name, but for the line's end behind it.
+    /// [`Disk::set`] takes it.
+    pub fn json(&mut self, device: &str) -> Result<String, Error> {
+        let device =
+            CString::new(device).map_err(|_| Error::told(ErrorKind::BadArgument, "the device's name has a zero byte"))?;
+        let text = self.listed(sys::TEXT_ROOM, 0u8, |disk, text, reply| unsafe {
+            sys::ptab_disk_table(disk, device.as_ptr(), text.as_mut_ptr().cast::<c_char>(), text.len(), reply)
+        })?;
+        Ok(String::from_utf8_lossy(&text).into_owned())
+    }
+
+    /// The blocks of free sectors where a new partition may lie, as `ptab free` has them.
+    pub fn free(&mut self) -> Result<Vec<FreeBlock>, Error> {
+        let rows = self.listed(sys::MOST_BLOCKS, sys::RawBlock::default(), |disk, rows, reply| unsafe {
+            sys::ptab_disk_free(disk, rows.as_mut_ptr(), rows.len(), reply)
+        })?;
+        Ok(rows.iter().map(FreeBlock::new).collect())
+    }
+
+    /// A list, with as much room as it takes.
+    fn listed<T: Clone>(
+        &mut self, room: usize, empty: T, mut call: impl FnMut(*mut RawDisk, &mut [T], *mut RawReply) -> i32,
+    ) -> Result<Vec<T>, Error> {
+        let mut count = room;
+        loop {
+            let mut list = vec![empty.clone(); count];
+            let (status, reply) = self.call(&[sys::DONE, sys::ROOM], |disk, reply| call(disk, &mut list, reply))?;
+            count = reply.count as usize;
+            if status == sys::DONE {
+                list.truncate(count);
+                return Ok(list);
+            }
+        }
+    }
+
     /// Whether the disk is healthy, or the first finding.
     pub fn verify(&mut self) -> Result<Verdict, Error> {
         let (status, reply) = self.call(&[sys::DONE, sys::NO], |disk, reply| unsafe { sys::ptab_disk_verify(disk, reply) })?;
@@ -238,6 +276,20 @@ impl Disk {
     pub fn adopt(&mut self, other: &mut Disk) -> Result<u64, Error> {
         let other = other.raw.as_ptr();
         self.change(|disk, reply| unsafe { sys::ptab_disk_adopt(disk, other, reply) })
+    }
+
+    /// Gives the disk the table that a text of JSON says, with GUIDs that are drawn where it leaves them out: how many sectors were
+    /// written. docs/table.md has what is taken for what it leaves out; partitions that it doesn't have are removed. Where the text has a
+    /// fault, [`Error::fault`] says where.
+    pub fn set(&mut self, table: &str) -> Result<u64, Error> {
+        let (at, len) = (table.as_ptr().cast::<c_char>(), table.len());
+        self.change(|disk, reply| unsafe { sys::ptab_disk_set(disk, at, len, null(), 0, reply) })
+    }
+
+    /// The same with 16 random bytes for each GUID.
+    pub fn set_drawn(&mut self, table: &str, drawn: &[u8]) -> Result<u64, Error> {
+        let (at, len) = (table.as_ptr().cast::<c_char>(), table.len());
+        self.change(|disk, reply| unsafe { sys::ptab_disk_set(disk, at, len, drawn.as_ptr(), drawn.len(), reply) })
     }
 
     /// Carries out a plan from elsewhere, if `check` says yes to it: how many sectors were written.
@@ -281,6 +333,16 @@ impl Disk {
         let other = other.raw.as_ptr();
         self.planned(|disk, (writes, bytes), reply| unsafe {
             sys::ptab_disk_adopt_plan(disk, other, writes.as_mut_ptr(), writes.len(), bytes.as_mut_ptr(), bytes.len(), reply)
+        })
+    }
+
+    /// The plan of [`Disk::set`].
+    pub fn set_plan(&mut self, table: &str) -> Result<Plan, Error> {
+        let (at, len) = (table.as_ptr().cast::<c_char>(), table.len());
+        self.planned(|disk, (writes, bytes), reply| unsafe {
+            sys::ptab_disk_set_plan(
+                disk, at, len, null(), 0, writes.as_mut_ptr(), writes.len(), bytes.as_mut_ptr(), bytes.len(), reply,
+            )
         })
     }
 

@@ -66,10 +66,21 @@ pub struct RawWrite {
     pub phase: u64,
 }
 
+#[repr(C)]
+#[derive(Clone, Copy, Default)]
+pub struct RawBlock {
+    pub first: u64,
+    pub last: u64,
+    pub inside: u64,
+}
+
 pub const VERSION: i32 = 2;
 pub const MOST_MEMBERS: usize = 1056;
 pub const MOST_WRITES: usize = 264;
 pub const GPT: u32 = 2;
+/// Room that mostly is enough for a table's text, and for its free blocks.
+pub const TEXT_ROOM: usize = 16384;
+pub const MOST_BLOCKS: usize = 512;
 
 pub const DONE: i32 = 0;
 pub const NO: i32 = 1;
@@ -87,6 +98,7 @@ pub const BY_TABLE: u32 = 16;
 
 pub const ABOUT_ARGUMENT: u32 = 1;
 pub const ARGUMENT_PLAN: u32 = 6;
+pub const ABOUT_TEXT: u32 = 11;
 pub const ABOUT_DISK: u32 = 64;
 pub const LOCKED: u32 = 7;
 
@@ -127,5 +139,16 @@ extern "C" {
     pub fn ptab_disk_adopt_plan(
         disk: *mut RawDisk, other: *mut RawDisk, writes: *mut RawWrite, writes_len: usize, bytes: *mut u8, bytes_len: usize,
         reply: *mut RawReply,
+    ) -> i32;
+    pub fn ptab_disk_table(
+        disk: *mut RawDisk, device: *const c_char, text: *mut c_char, text_len: usize, reply: *mut RawReply,
+    ) -> i32;
+    pub fn ptab_disk_free(disk: *mut RawDisk, rows: *mut RawBlock, rows_len: usize, reply: *mut RawReply) -> i32;
+    pub fn ptab_disk_set(
+        disk: *mut RawDisk, text: *const c_char, text_len: usize, drawn: *const u8, drawn_len: usize, reply: *mut RawReply,
+    ) -> i32;
+    pub fn ptab_disk_set_plan(
+        disk: *mut RawDisk, text: *const c_char, text_len: usize, drawn: *const u8, drawn_len: usize, writes: *mut RawWrite,
+        writes_len: usize, bytes: *mut u8, bytes_len: usize, reply: *mut RawReply,
     ) -> i32;
 }

@@ -1,6 +1,6 @@
 //! What stands on a disk.
 
-use crate::sys::{self, RawMember, RawTable};
+use crate::sys::{self, RawBlock, RawMember, RawTable};
 use std::fmt;
 
 /// A GUID, as a disk stores it. It prints as its text, in lower case.
@@ -85,6 +85,21 @@ impl Partition {
             Some(letter) => format!("{}.{letter}", self.number),
             None => self.number.to_string(),
         }
+    }
+}
+
+/// A block of free sectors: as long as can be.
+#[derive(Clone, Copy, Debug, PartialEq, Eq)]
+pub struct FreeBlock {
+    pub first: u64,
+    pub last: u64,
+    /// The number of the extended partition or of the slice that it lies inside.
+    pub inside: Option<u64>,
+}
+
+impl FreeBlock {
+    pub(crate) fn new(row: &RawBlock) -> FreeBlock {
+        FreeBlock { first: row.first, last: row.last, inside: (row.inside != 0).then_some(row.inside) }
     }
 }
 

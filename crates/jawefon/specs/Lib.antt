@@ -14,6 +14,8 @@ pub use Rattle.pt_apply.specs.Plans
 pub use Rattle.pt_check.specs.Answers
 pub use Rattle.pt_plan.specs.Batches
 pub use Rattle.pt_plan.specs.Layouts
+pub use Rattle.pt_carry.specs.Data as CarriedData
+pub use Rattle.pt_carry.specs.Carries
 pub use Rattle.pt_types.specs.Types
 pub use Rattle.pt_types.specs.Listing
 pub use Rattle.pt_tables.specs.Text

@@ -18,7 +18,8 @@
 //!   A word is a value too, as [`Edit::New`] with its [`End`] and [`Code`]. New GUIDs are made by [`fresh`] of 16 random bytes.
 //!   [`session`] commits several lists, [`repair`] mends what is damaged, and [`edit`] makes a layout of a layout and touches no disk.
 //!   [`commit_layout`] commits a layout from anywhere, [`commit_like`] the layout of another disk, as of a copy that another tool
-//!   changed.
+//!   changed, and [`commit_like_with`] that with data which the tool wrote to sectors that no partition owned ([`Extent`]), carried over
+//!   first.
 //! - **Plan**: [`plan_for`], [`plan_for_layout`], [`plan_like`] and [`plan_for_repair`] give the writes and write nothing,
 //!   [`plan_text`] and [`read_plan`] turn them into text and back. [`check`] says whether a plan from anywhere is safe, and
 //!   [`layout_after`] what it would make of the disk; [`apply_checked`] applies it only where it is safe. [`make_plan`] and [`apply`]
@@ -54,6 +55,9 @@ pub use pt_apply::Write;
 pub use pt_apply::apply;
 pub use pt_apply::plan_text;
 pub use pt_apply::read_plan;
+pub use pt_carry::CarryError;
+pub use pt_carry::Unfit;
+pub use pt_carry::commit_like_with;
 pub use pt_check::Answer;
 pub use pt_check::CheckError;
 pub use pt_check::Why;

@@ -208,6 +208,32 @@ fn a_table_by_its_text(rt: HostRuntime) -> Result<(), Fail> {
     Ok(())
 }
 
+/// A text of an MBR with a primary and a logical partition.
+const MBR_TEXT: &str = r#"{"partitiontable": {"label": "dos", "partitions": [
+    {"start": 100, "size": 50, "bootable": true}, {"number": 9, "start": 300, "size": 9}, {"type": "5", "start": 200}]}}"#;
+
+#[test]
+fn an_mbr_by_its_text(rt: HostRuntime) -> Result<(), Fail> {
+    let draft = read_draft(rt.alloc(), MBR_TEXT)?;
+    let made = table_for::<512>(rt.alloc(), &draft, 4096, None, &[])?;
+    match &made.body {
+        Body::Mbr { records, chain } => {
+            assert!(rt; matches!(records[0], Some(it) if it.boot == 0x80 && it.start == 100));
+            assert!(rt; matches!(records[1], Some(it) if it.kind == 0x05 && it.size == 3896));
+            match chain.as_slice() {
+                [ebr] => assert!(rt; matches!(ebr.logical, Some(it) if it.start == 100)),
+                _ => assert!(rt; false),
+            }
+        }
+        Body::Gpt(_) => assert!(rt; false),
+    }
+    let text = table_text::<512>(rt.alloc(), "disk", &made)?;
+    let again = read_draft(rt.alloc(), text.as_str())?;
+    let same = table_for::<512>(rt.alloc(), &again, 4096, None, &[])?;
+    assert!(rt; same.same(&made));
+    Ok(())
+}
+
 #[test]
 fn a_faulty_text(rt: HostRuntime) -> Result<(), Fail> {
     let mut disk = gpt_disk(rt.alloc())?;

@@ -1,5 +1,6 @@
-//! The core for callers in C (docs/c.md and include/ptab.h): what a disk denotes, whether it is healthy, where a
-//! partition's sectors are, and checked plans of edits and repairs, and of the layout of another disk.
+//! The core for callers in C (docs/c.md and include/ptab.h): what a disk denotes, also as text, whether it is healthy, where a
+//! partition's sectors are, which sectors are free, and checked plans of edits and repairs, of the layout of another disk, and of
+//! the table that a text says.
 //!
 //! The caller reads and writes the disk; a call gets the sectors that were read so far, and ends with an answer or
 //! with the number of one more sector that it wants.
@@ -16,11 +17,13 @@ ghost use Rattle.pt_sector.specs.Sectors.{Sectors};
 ghost use Rattle.pt_replay.specs.Wanted.{IsPartOf, Disks, OfSize, NoBuffers, WantedFor};
 ghost use Rattle.pt_replay.specs.Listed.{listing};
 ghost use Rattle.pt_replay.specs.Claims.{Says, MembersFor, VerifiedFor, LocatedFor, PlannedFor, MendedFor, CheckedFor, AdoptedFor};
+ghost use Rattle.pt_replay.specs.Tables.{TextFor, FreeFor, SetFor};
 
 use pt_guid::{Guid, code_of_type};
 use pt_replay::{
-    Answer, GuidBytes, GuidText, MemberRow, Reply, TableRow, View, WriteRow, adopted, beyond,
-    checked, located, members, mended, planned, verified, wanted,
+    Answer, FreeRow, GuidBytes, GuidText, MemberRow, Reply, TableRow, View, WriteRow, adopted,
+    beyond, checked, free_listed, located, members, mended, planned, set_planned, table_written,
+    verified, wanted,
 };
 use pt_sector::Moments;
 use std::alloc::Global;
@@ -44,6 +47,45 @@ pub extern "C" fn ptab_members(
     match view.sector_size {
         512 => members::<512>(alloc, view, table, rows, Moments::any()).give(reply),
         4096 => members::<4096>(alloc, view, table, rows, Moments::any()).give(reply),
+        _ => Answer::bad_argument(1).give(reply),
+    }
+}
+
+/// The table that the disk denotes as text, as `ptab show --json` prints it under this name of the device, in the caller's buffer.
+#[unsafe(no_mangle)]
+pub extern "C" fn ptab_table_text(
+    alloc: Global,
+    view: &View<'_>,
+    device: &[u8],
+    text: &mut [u8],
+    reply: &mut Reply,
+) -> i32
+    ghost disk: { Sectors }
+    ensures says { IsPartOf view.now disk → Says (OfSize view.now (text.new ≡ text.old)
+        (TextFor view.now.sector_size view.now disk device.now text.old text.new)) result reply.new }
+{
+    match view.sector_size {
+        512 => table_written::<512>(alloc, view, device, text, Moments::any()).give(reply),
+        4096 => table_written::<4096>(alloc, view, device, text, Moments::any()).give(reply),
+        _ => Answer::bad_argument(1).give(reply),
+    }
+}
+
+/// Lists the blocks of free sectors, where a new partition may lie.
+#[unsafe(no_mangle)]
+pub extern "C" fn ptab_free(
+    alloc: Global,
+    view: &View<'_>,
+    rows: &mut [FreeRow],
+    reply: &mut Reply,
+) -> i32
+    ghost disk: { Sectors }
+    ensures says { IsPartOf view.now disk → Says (OfSize view.now (rows.new ≡ rows.old)
+        (FreeFor view.now.sector_size view.now disk rows.old rows.new)) result reply.new }
+{
+    match view.sector_size {
+        512 => free_listed::<512>(alloc, view, rows, Moments::any()).give(reply),
+        4096 => free_listed::<4096>(alloc, view, rows, Moments::any()).give(reply),
         _ => Answer::bad_argument(1).give(reply),
     }
 }
@@ -174,6 +216,34 @@ pub extern "C" fn ptab_adopt_plan(
             reply,
         ),
         4096 => adopted::<4096>(alloc, view, other, writes, bytes, Moments::any(), beyond()).give(
+            reply,
+        ),
+        _ => Answer::bad_argument(1).give(reply),
+    }
+}
+
+/// The checked plan by which the disk takes the table that a text says, in the caller's buffers: without writes where it has it
+/// already. `drawn` has sixteen random bytes for each fresh GUID.
+#[unsafe(no_mangle)]
+pub extern "C" fn ptab_set_plan(
+    alloc: Global,
+    view: &View<'_>,
+    text: &[u8],
+    drawn: &[u8],
+    writes: &mut [WriteRow],
+    bytes: &mut [u8],
+    reply: &mut Reply,
+) -> i32
+    ghost disk: { Sectors }
+    ensures says { IsPartOf view.now disk → Says (OfSize view.now (buffers writes.new bytes.new ≡ buffers writes.old bytes.old)
+        (SetFor view.now.sector_size view.now disk text.now drawn.now
+        (buffers writes.old bytes.old) (buffers writes.new bytes.new))) result reply.new }
+{
+    match view.sector_size {
+        512 => set_planned::<512>(alloc, view, text, drawn, writes, bytes, Moments::any()).give(
+            reply,
+        ),
+        4096 => set_planned::<4096>(alloc, view, text, drawn, writes, bytes, Moments::any()).give(
             reply,
         ),
         _ => Answer::bad_argument(1).give(reply),
