@@ -1,11 +1,13 @@
 #!/usr/bin/env bash
-# Installs the program and ptab-run, their man pages and the program's completion for bash, zsh and fish under PREFIX, and the library for
-# callers in C (headers, archive, shared object and a pkg-config file) with its module for Python, and says so in one line a file.
+# Installs the program and ptab-run, partition tools under their own names that go through it (lib/ptab/safe), their man pages and
+# completion for bash, zsh and fish under PREFIX, and the library for callers in C (headers, archive, shared object and a pkg-config file)
+# with its module for Python, and says so in one line a file.
 # It needs no root for a PREFIX of one's own.
 #
 # usage: ./install.sh PREFIX
 #   PTAB=FILE     installs this program, and no library without LIBRARY; else the built one, which packaging/build.py proves and builds
-#                 where that wasn't done yet or a source has changed
+#                 where that wasn't done yet or a source has changed, and packaging/release.sh links with the C library inside it. Where
+#                 that can't be linked here, the one with shared libraries
 #   LIBRARY=FILE  the proved archive, for a C compiler to link; else the built one, proved and built in the same way. LIBRARY= installs
 #                 no library
 #   DESTDIR=DIR   puts all of it below DIR, as packagers do; the program is to run with PREFIX
@@ -32,6 +34,11 @@ if [ -z "$ptab" ]; then
   built=$(python3 "$here/packaging/build.py" "${wanted[@]}")
   ptab=$(printf '%s\n' "$built" | sed -n 1p)
   library=${library:-$(printf '%s\n' "$built" | sed -n 2p)}
+  if linked=$(PTAB=$ptab "$here/packaging/release.sh"); then
+    ptab=$linked
+  else
+    echo "install.sh: no C library can be linked into the program here (the lines above), so it needs that of this machine" >&2
+  fi
 fi
 if [ ! -f "$ptab" ]; then
   echo "install.sh: no program at $ptab" >&2
@@ -44,11 +51,16 @@ put() { # MODE FILE PLACE
 }
 put 755 "$ptab" bin/ptab
 put 755 "$here/tools/ptab-run" bin/ptab-run
+for module in "$here"/tools/ptab_run/*.py; do put 644 "$module" "lib/ptab/ptab_run/$(basename "$module")"; done
+for tool in cfdisk cgpt fdisk gdisk growpart parted sfdisk sgdisk; do put 755 "$here/tools/safe/tool" "lib/ptab/safe/$tool"; done
 put 644 "$here/man/ptab.8" share/man/man8/ptab.8
 put 644 "$here/man/ptab-run.8" share/man/man8/ptab-run.8
 put 644 "$here/completion/ptab.bash" share/bash-completion/completions/ptab
 put 644 "$here/completion/ptab.zsh" share/zsh/site-functions/_ptab
 put 644 "$here/completion/ptab.fish" share/fish/vendor_completions.d/ptab.fish
+put 644 "$here/completion/ptab-run.bash" share/bash-completion/completions/ptab-run
+put 644 "$here/completion/ptab-run.zsh" share/zsh/site-functions/_ptab-run
+put 644 "$here/completion/ptab-run.fish" share/fish/vendor_completions.d/ptab-run.fish
 if [ -n "$library" ]; then
   made=$(mktemp -d)
   trap 'rm -rf "$made"' EXIT

@@ -32,7 +32,7 @@ _ptab() {
     --sector-size) _ptab_of "$current" 512 4096; return ;;
     --fresh) return ;;
     --copy) _ptab_of "$current" primary backup; return ;;
-    --after)
+    --after | --data)
       mapfile -t COMPREPLY < <(compgen -f -- "$current")
       compopt -o filenames 2>/dev/null
       return
@@ -41,7 +41,7 @@ _ptab() {
   for ((k = 1; k < COMP_CWORD; k++)); do
     word=${COMP_WORDS[k]}
     case $word in
-      --sector-size | --fresh | --after | --copy)
+      --sector-size | --fresh | --after | --copy | --data)
         k=$((k + 1))
         if [ "${COMP_WORDS[k]}" = '=' ]; then k=$((k + 1)); fi
         ;;
@@ -60,8 +60,8 @@ _ptab() {
     help:*) [ ${#places[@]} = 0 ] && _ptab_of "$current" show verify locate free types edit plan check apply repair adopt set; return ;;
     edit:-*) _ptab_of "$current" --fresh --keep-primary --device --sector-size --in-use --no-lock --help -h; return ;;
     plan:-*) _ptab_of "$current" --fresh --keep-primary --device --sector-size --help -h; return ;;
-    show:-*) _ptab_of "$current" --after --copy --json --device --sector-size --help -h; return ;;
-    adopt:-*) _ptab_of "$current" --plan --by-table --other-device --device --sector-size --in-use --no-lock --help -h; return ;;
+    show:-*) _ptab_of "$current" --after --copy --json --human --device --sector-size --help -h; return ;;
+    adopt:-*) _ptab_of "$current" --data --plan --by-table --other-device --device --sector-size --in-use --no-lock --help -h; return ;;
     set:-*) _ptab_of "$current" --plan --fresh --by-table --device --sector-size --in-use --no-lock --help -h; return ;;
     free:-*) _ptab_of "$current" --json --device --sector-size --help -h; return ;;
     repair:-*) _ptab_of "$current" --keep-primary --device --sector-size --in-use --no-lock --help -h; return ;;

@@ -9,7 +9,7 @@ function __ptab_words
             continue
         end
         switch $word
-            case --sector-size --fresh --after --copy
+            case --sector-size --fresh --after --copy --data
                 set is_value 1
             case '-*'
             case '*'
@@ -66,6 +66,8 @@ complete -c ptab -n '__ptab_in edit plan repair' -l keep-primary -d 'Keep the pr
 complete -c ptab -n '__ptab_in show' -l after -rF -d 'A plan, as if it were applied'
 complete -c ptab -n '__ptab_in show' -l copy -xa 'primary backup' -d 'One copy of a GPT alone: primary or backup'
 complete -c ptab -n '__ptab_in show free' -l json -d 'Print JSON in place of lines'
+complete -c ptab -n '__ptab_in show' -l human -d 'Print a page for people in place of lines'
+complete -c ptab -n '__ptab_in adopt' -l data -rF -d 'Sectors that come too, in lines of FIRST LAST'
 complete -c ptab -n '__ptab_in adopt set' -l plan -d 'Print the plan, and write nothing'
 complete -c ptab -n '__ptab_in adopt set' -l by-table -d 'Zero the primary header meanwhile, as `edit` does'
 complete -c ptab -n '__ptab_in adopt' -l other-device -d 'OTHER is a block device'

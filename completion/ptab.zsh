@@ -57,6 +57,7 @@ _ptab() {
     show)
       _arguments $on_disk '--after=[A plan, as if it were applied]:plan:_files' \
         '--copy=[One copy of a GPT alone: primary or backup]:copy:(primary backup)' $json \
+        '--human[Print a page for people in place of lines]' \
         '1:image:_ptab_image'
       ;;
     verify) _arguments $on_disk '1:image:_ptab_image' ;;
@@ -69,7 +70,8 @@ _ptab() {
     apply) _arguments $on_disk $writing '1:image:_ptab_image' '2:plan:_files' ;;
     repair) _arguments $on_disk $writing $keep '1:image:_ptab_image' ;;
     adopt)
-      _arguments $on_disk $writing $taking '--other-device[OTHER is a block device]' '1:image:_ptab_image' '2:other:_ptab_image'
+      _arguments $on_disk $writing $taking '--data=[Sectors that come too, in lines of FIRST LAST]:runs of sectors:_files' \
+        '--other-device[OTHER is a block device]' '1:image:_ptab_image' '2:other:_ptab_image'
       ;;
     set) _arguments $on_disk $writing $taking $fresh '1:image:_ptab_image' '2:table:_files' ;;
     help) _arguments '1:command:_ptab_command' ;;

@@ -2,7 +2,8 @@
 """Proves crates and all that they stand on, each once those below it are done, and builds them. Prints where each of them stands.
 
 usage: packaging/build.py [--over-ci] CRATE...     CRATE is a program, a static library or a library, as ptab, pt_c or pt_gpt
-  --over-ci   takes what `rt ci` has just proved and built; a static library, which `rt ci` only proves, is proved and built
+  --over-ci   takes what `rt ci` has just proved and built. What it leaves out is proved and built: a static library, which it only proves,
+              and a program's object, which it hasn't where it took what an earlier run kept
 
 What was proved before is taken where neither the kit, nor a source, nor a crate below has changed since.
 """
@@ -78,7 +79,8 @@ def prove_all(crates):
 
 def take(crate):
     """Takes a crate as `rt ci` left it. Returns whether it is proved."""
-    if crate.is_static or not os.path.exists(kit.place_of(crate)):
+    made = [kit.place_of(crate), *([f"{kit.place_of(crate)}.o"] if crate.is_program else [])]
+    if crate.is_static or not all(map(os.path.exists, made)):
         return prove(crate)
     put_note(crate, sum_of(crate))
     return True

@@ -1,11 +1,12 @@
 #!/usr/bin/env bash
-# Makes a Debian package of what was proved: the program, with ptab-run, their man pages, completion, the pages on both and the recipes, and
-# notes on where it comes from.
+# Makes a Debian package of what was proved: the program, which needs no other package's libraries, with ptab-run, their man pages,
+# completion, the pages on both and the recipes, and notes on where it comes from.
 # The same program, commit and kit give the same package, byte by byte. It needs no root.
 #
 # usage: packaging/debian.sh OUT     OUT is the .deb, or a folder for it
-#   PTAB=FILE            the program; else the built one, which ./build.sh proves and builds where that wasn't done yet
+#   PTAB=FILE            the program; else the one that packaging/release.sh links, where that wasn't done yet
 #   KIT=LINE             the kit that proved it; else what `rt version` prints
+#   LINKED=LINE          what is linked into it, and by what; else what `packaging/release.sh --with` prints
 #   SOURCE_DATE_EPOCH=S  the time of everything in it; else that of the commit
 #   COPYRIGHT=FILE       a copyright file in place of the one that says where to ask
 set -euo pipefail
@@ -19,7 +20,7 @@ here=$(cd "$(dirname "$0")/.." && pwd)
 out=$1
 ptab=${PTAB:-}
 if [ -z "$ptab" ]; then
-  ptab=$("$here/build.sh")
+  ptab=$("$here/packaging/release.sh")
 fi
 if [ ! -f "$ptab" ]; then
   echo "debian.sh: no program at $ptab" >&2
@@ -40,8 +41,14 @@ architecture=$(dpkg --print-architecture)
 author=$(git log -1 --format='%an <%ae>')
 sum=$(sha256sum <"$ptab")
 sum=${sum%% *}
-# the newest of the C library's versions that the program names
-libc=$(grep -ao 'GLIBC_2\.[0-9]*' "$ptab" | sort -uV | tail -n 1)
+# the newest of the C library's versions that the program names; none where that library is inside it
+libc=$({ grep -ao 'GLIBC_2\.[0-9]*' "$ptab" || true; } | sort -uV | tail -n 1)
+linked=
+needs="Depends: libc6 (>= ${libc#GLIBC_})"
+if [ -z "$libc" ]; then
+  linked=${LINKED:-$("$here/packaging/release.sh" --with)}
+  needs="Built-Using: $(sed 's/^\([^ ;]*\) \([^ ;]*\);.*/\1 (= \2)/' <<<"$linked")"
+fi
 
 folder=$(mktemp -d)
 trap 'rm -rf "$folder"' EXIT
@@ -60,11 +67,13 @@ sha256: $sum
 commit: $commit
 kit: $kit
 time: $epoch
+linked: ${linked:-with shared libraries}
 
-Commit and kit are as the maker of this package gave them. To check them, prove and build that commit with that kit (./build.sh) and
-compare the program's sum with the one above. To make this package again, byte by byte, from a program with that sum:
+Commit, kit and what it is linked with are as the maker of this package gave them. To check them, prove and build that commit with that kit
+and link it with the same (packaging/release.sh; with shared libraries ./build.sh), and compare the program's sum with the one above. To
+make this package again, byte by byte, from a program with that sum:
 
-    PTAB=/usr/bin/ptab KIT='$kit' SOURCE_DATE_EPOCH=$epoch packaging/debian.sh ptab.deb
+    PTAB=/usr/bin/ptab KIT='$kit' LINKED='$linked' SOURCE_DATE_EPOCH=$epoch packaging/debian.sh ptab.deb
 END
 if [ -n "${COPYRIGHT:-}" ]; then
   install -m 644 "$COPYRIGHT" "$doc/copyright"
@@ -73,6 +82,10 @@ else
 Format: https://www.debian.org/doc/packaging-manuals/copyright-format/1.0/
 Upstream-Name: Jawefon
 Upstream-Contact: $author
+Comment: where BUILD says that a C library is linked into /usr/bin/ptab, parts of
+ that library are inside it. Those of the GNU C Library are under
+ LGPL-2.1-or-later (/usr/share/common-licenses/LGPL-2.1), and BUILD says how the
+ program is linked again, with another one too.
 
 Files: *
 Copyright: the authors of Jawefon
@@ -94,7 +107,7 @@ Version: $version
 Section: admin
 Priority: optional
 Architecture: $architecture
-Depends: libc6 (>= ${libc#GLIBC_})
+$needs
 Recommends: python3 (>= 3.8)
 Suggests: dosfstools, fdisk, gdisk, parted, testdisk
 Installed-Size: $bytes

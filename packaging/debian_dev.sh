@@ -31,7 +31,7 @@ folder=$(mktemp -d)
 trap 'rm -rf "$folder"' EXIT
 tree=$folder/tree
 PTAB=/bin/true LIBRARY=$LIBRARY DESTDIR=$tree "$here/install.sh" /usr >"$folder/installed"
-rm -r "$tree/usr/bin" "$tree/usr/share"
+rm -r "$tree/usr/bin" "$tree/usr/share" "$tree/usr/lib/ptab"
 install -d -m 755 "$tree/DEBIAN"
 # the files that docs/c.md names
 grep -oE '[[:alnum:]_./-]+[[:alnum:]]' "$here/docs/c.md" | sed 's,^\./,,' | sort -u >"$folder/words"
