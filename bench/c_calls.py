@@ -3,9 +3,10 @@
 those of ptab_wanted among them, how many sectors they are given at last (both ends were read before the first one), the most
 bytes of memory that one of them holds, and the milliseconds of all, by ctypes and with the packing of the view.
 
-Then what sectors that are wanted cost: the instructions within the library by which the C example shows images with more and more labels,
-where valgrind is installed. It ends with status 1 where a GPT of slices takes more than three calls, where a chain takes more than one for
-each extended boot record and three besides, or where twice the labels cost more than twice the instructions and a tenth.
+Then what sectors that are wanted cost: the calls by which an open disk shows images with more and more labels and chains, and the
+instructions within the library, where valgrind is installed. It ends with status 1 where a GPT of slices takes more than three calls; where
+a chain takes more than one for each extended boot record and three besides, of who asks sector by sector, or more than one of an open
+disk; or where twice the labels or records cost more than twice the instructions and a tenth, or a fifth where both grow.
 
 usage: bench/c_calls.py ARCHIVE     ARCHIVE is crates/pt_c/out/libpt_c.a, by packaging/build.py pt_c
 """
@@ -20,7 +21,9 @@ import tempfile
 import time
 
 ROOT = os.path.join(os.path.dirname(os.path.abspath(__file__)), "..")
-sys.path.insert(0, os.path.join(ROOT, "tests", "shared"))
+sys.path[:0] = [os.path.join(ROOT, *it) for it in (("tests", "shared"), ("tests", "callers"), ("bindings", "python"))]
+import disk_chains
+import ptab
 import replay as lib
 from images import FREEBSD, LARGE, SMALL, ebr, entry, guid, label, record
 
@@ -148,11 +151,10 @@ def measured(it, sectors, image, call):
     return best, answer
 
 
-def within_library(archive, folder):
+def within_library(folder):
     """A call that counts the instructions within the library by which the C example shows an image; None where there is no valgrind."""
     if not shutil.which("valgrind"):
         return None
-    subprocess.run([f"{ROOT}/bindings/c/build.sh", archive, folder], check=True)
     example = f"{folder}/ptab_c"
     subprocess.run(["cc", "-std=c11", "-O2", f"-I{ROOT}/include", f"{ROOT}/examples/c/ptab.c", f"{folder}/libptab.a", "-o", example],
                    check=True)
@@ -167,19 +169,35 @@ def within_library(archive, folder):
     return counted
 
 
+def on_open_disk(image, folder):
+    """How often an open disk asks the library for the partitions of an image."""
+    path = f"{folder}/open"
+    with open(path, "wb") as file:
+        file.write(image)
+    with ptab.Disk(path) as disk:
+        return disk_chains.asked(disk, SMALL, ptab.Disk.table)[1]
+
+
+# (name, the image, the calls of who asks sector by sector, those of an open disk, what twice as many may cost)
+GROWING = (("GPT, slices with labels", sliced_gpt, lambda n: 3, 3, 2.1),
+           ("MBR, logical partitions", lambda n: chain(n, False), lambda n: n + 3, 1, 2.1),
+           ("MBR, logical slices with labels", lambda n: chain(n, True), lambda n: n + 3, 1, 2.2))
+
+
 def by_count(it, archive, folder):
     """What more and more sectors that are wanted cost. Returns whether the bounds hold."""
-    counted, held = within_library(archive, folder), True
-    print("\n| Image | Calls | Sectors | Instructions of members |\n|---|---|---|---|")
-    for name, make, calls in (("GPT, slices with labels", sliced_gpt, lambda n: 3), ("MBR, logical partitions", lambda n: chain(n, False),
-                                                                                     lambda n: n + 3)):
+    subprocess.run([f"{ROOT}/bindings/c/build.sh", archive, folder], check=True)
+    counted, held = within_library(folder), True
+    disk_chains.counted_library(folder)
+    print("\n| Image | Calls | Sectors | Calls of an open disk | Instructions of members |\n|---|---|---|---|---|")
+    for name, make, calls, of_open, twice in GROWING:
         before = None
         for n in (8, 16, 32, 64, 128):
             image = make(n)
             (_, turns, given, _, _), _ = measured(it, SMALL, image, lambda disk: disk.members())
-            cost = counted(image) if counted else None
-            print(f"| {name}: {n} | {turns} | {given} | {cost or 0:,} |")
-            held &= turns <= calls(n) and (make is not sliced_gpt or not cost or not before or cost <= 2.1 * before)
+            asked, cost = on_open_disk(image, folder), counted(image) if counted else None
+            print(f"| {name}: {n} | {turns} | {given} | {asked} | {cost or 0:,} |")
+            held &= turns <= calls(n) and asked <= of_open and (not cost or not before or cost <= twice * before)
             before = cost
     return held
 

@@ -6,7 +6,7 @@ usage: bench/checks.py PTAB
 The long plans write 4,096 sectors, as many as a plan may have: in one phase, and in 4,096 phases. Their writes are those of sectors
 of the table with the bytes that stand there, so that check goes through all of them and says yes. The same writes are checked in
 ascending, in descending and in mixed order. It ends with status 1 where one of these takes more than twice the instructions of the
-ascending ones, or where verify or an edit takes more instructions than its line allows.
+ascending ones, or where verify, an edit or a check of a long plan takes more instructions than its line allows.
 """
 import os
 import random
@@ -14,46 +14,20 @@ import subprocess
 import sys
 import tempfile
 
+from disks import APART, full_gpt, labelled_chain, labelled_gpt
 from measure import calls, instructions, reset
 
 sys.path.insert(0, os.path.join(os.path.dirname(os.path.abspath(__file__)), "..", "tests", "shared"))
-from images import FREEBSD, SMALL, chained, ebr, entry, guid, label, long_chain, record  # noqa: E402
+from images import SMALL, chained, ebr, entry, label, long_chain, record  # noqa: E402
 from plans import phases_of, text_of  # noqa: E402
 
 MOST = 4096
+# Instructions that a check of such a plan may take: in one phase, with a phase for each write, and where these are of labels or of an MBR.
+IN_ONE_PHASE, IN_PHASES, IN_PLACES = 32_200_000, 34_600_000, 37_200_000
 # Instructions that a check of the same writes in another order may take, for one of the ascending ones.
 IN_ANY_ORDER = 2
 # Instructions that verify and an edit may take where 128 slices have labels.
 VERIFY_LABELLED, EDIT_LABELLED = 2_300_000, 7_500_000
-APART = 400
-
-
-def slice_label():
-    """A label of a slice of 300 sectors, with seven partitions."""
-    return label(300, {letter: (30, 16 + 30 * k, 7) for k, letter in enumerate((0, 1, 3, 4, 5, 6, 7))})
-
-
-def labelled_gpt():
-    """A GPT of 128 slices, each with a label, and the label places."""
-    firsts = [1000 + APART * k for k in range(128)]
-    image = SMALL.gpt(65536, {k + 1: entry(first, first + 299, FREEBSD, guid(k + 1), name=f"part {k + 1}")
-                              for k, first in enumerate(firsts)})
-    for first in firsts:
-        SMALL.put(image, first + 1, slice_label())
-    return image, [first + 1 for first in firsts]
-
-
-def labelled_chain():
-    """An MBR of 3 slices and 128 logical ones, each with a label, and the extended boot records."""
-    heads = [1000 + APART * k for k in range(128)]
-    image = SMALL.mbr(65536, [*(record(0xA5, 100 + 100 * k, 100) for k in range(3)), record(0x05, 1000, 64000)])
-    for k in range(3):
-        SMALL.put(image, 101 + 100 * k, label(100, {0: (30, 16, 7)}))
-    for k, head in enumerate(heads):
-        link = record(0x05, APART * (k + 1), 301) if k < 127 else bytes(16)
-        SMALL.put(image, head, ebr(record(0xA5, 1, 300), link))
-        SMALL.put(image, head + 2, slice_label())
-    return image, heads
 
 
 def whole(image, places):
@@ -75,8 +49,8 @@ def in_orders(writes):
 
 
 def long_plans():
-    """(title, image, writes, whether each has a phase of its own)"""
-    full = SMALL.gpt(65536, {k: entry(100 * k, 100 * k + 99, unique=guid(k), name=f"part {k}") for k in range(1, 129)})
+    """(title, image, writes, whether each has a phase of its own, instructions that a check may take)"""
+    full = full_gpt()
     one = SMALL.gpt(65536, {1: entry(2048, 4095)})
     mbr = SMALL.mbr(65536, [record(0x83, 2048, 2048)])
     chain = long_chain(128)
@@ -84,20 +58,20 @@ def long_plans():
     logicals, heads = labelled_chain()
     backup = list(range(65536 - 33, 65536))
     for title, image in (("1 partition", one), ("128 partitions", full), ("128 labelled slices", slices)):
-        yield f"GPT, {title}: one phase", image, whole(image, backup), False
-        yield f"GPT, {title}: a phase each", image, whole(image, backup), True
-        yield f"GPT, {title}: its own header", image, whole(image, [1]), True
-    yield "GPT, 128 labelled slices: labels", slices, whole(slices, labels), True
-    yield "MBR: a phase each", mbr, whole(mbr, [0]), True
-    yield "MBR, 128 logicals: a phase each", chain, whole(chain, [10 + 2 * k for k in range(128)]), True
-    yield "MBR, 128 labelled: a phase each", logicals, whole(logicals, heads), True
+        yield f"GPT, {title}: one phase", image, whole(image, backup), False, IN_ONE_PHASE
+        yield f"GPT, {title}: a phase each", image, whole(image, backup), True, IN_PHASES
+        yield f"GPT, {title}: its own header", image, whole(image, [1]), True, IN_PHASES
+    yield "GPT, 128 labelled slices: labels", slices, whole(slices, labels), True, IN_PLACES
+    yield "MBR: a phase each", mbr, whole(mbr, [0]), True, IN_PLACES
+    yield "MBR, 128 logicals: a phase each", chain, whole(chain, [10 + 2 * k for k in range(128)]), True, IN_PLACES
+    yield "MBR, 128 labelled: a phase each", logicals, whole(logicals, heads), True, IN_PLACES
 
 
 def edits():
     """(title, image, words, instructions that the edit may take, none where it doesn't matter)"""
     fresh = ["--fresh", "".join(f"{number:032x}" for number in range(1, 130))]
     one = SMALL.gpt(65536, {1: entry(2048, 4095)})
-    full = SMALL.gpt(65536, {k: entry(100 * k, 100 * k + 99, unique=guid(k), name=f"part {k}") for k in range(1, 129)})
+    full = full_gpt()
     logical = chained({4096: ebr(link=record(0x05, 2047, 1001)), 6143: ebr(record(0x83, 1, 1000))})
     slices, _ = labelled_gpt()
     logicals, _ = labelled_chain()
@@ -157,13 +131,13 @@ class Bench:
             sys.exit(f"{title}: {said.stdout}{said.stderr}")
         return self.job(title, ["check", self.image, self.plan], allowed)
 
-    def long_plan(self, title, content, writes, is_split):
+    def long_plan(self, title, content, writes, is_split, allowed):
         self.begin(content)
-        allowed = None
+        ascending = None
         for order, ordered in in_orders(writes):
             phases = [[write] for write in ordered] if is_split else [ordered]
-            many = self.check(f"{title}, {order}", phases, allowed)
-            allowed = IN_ANY_ORDER * many if allowed is None else allowed
+            many = self.check(f"{title}, {order}", phases, min(allowed, IN_ANY_ORDER * ascending) if ascending else allowed)
+            ascending = ascending or many
 
     def edit(self, title, content, words, allowed):
         self.begin(content)

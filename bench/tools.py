@@ -11,21 +11,13 @@ import subprocess
 import sys
 import tempfile
 
+from disks import CHAIN, FULL, LARGE, LOGICALS, MAKE, ONE, TIGHT, damage
 from measure import measure
-
-sys.path.insert(0, os.path.join(os.path.dirname(os.path.abspath(__file__)), "..", "tests", "shared"))
-from images import SMALL, ebr, record  # noqa: E402
-
-MIB = 1 << 20
-LOGICALS = 120
-ONE, FULL = "1 partition, 64 MiB", "128 partitions, gaps, 256 MiB"
-TIGHT, CHAIN = "128 partitions, no gaps, 2 MiB", f"{LOGICALS} logicals, gaps, 256 MiB"
-LARGE = "1 partition, sparse 1 TiB"
 
 # At most so many times the instructions of the other tool.
 TIMES = [
-    (ONE, "rename", "cgpt", 1.15), (FULL, "rename", "cgpt", 0.55), (TIGHT, "rename", "sfdisk", 0.4),
-    (ONE, "repair", "cgpt", 2.0), (FULL, "repair", "cgpt", 1.2),
+    (ONE, "rename", "cgpt", 0.7), (FULL, "rename", "cgpt", 0.55), (TIGHT, "rename", "sfdisk", 0.4),
+    (ONE, "repair", "cgpt", 1.4), (FULL, "repair", "cgpt", 0.7),
     *((image, job, "sfdisk", 1) for image in (ONE, FULL, TIGHT, CHAIN, LARGE) for job in ("show", "verify")),
 ]
 # At most so many million instructions.
@@ -37,40 +29,6 @@ SECTORS = {"show": 34, "verify": 67, "rename": 67}
 SYNCS = 5
 # What a rename with the primary copy kept may cost, by what it costs without; it has as many syncs.
 KEPT, KEPT_BY_TABLE = "ptab -k", 1.03
-
-
-def gpt_by_sgdisk(ptab, path, size, places):
-    """A healthy table with these partitions: on small disks sgdisk's protective record is mended."""
-    with open(path, "wb") as it:
-        it.truncate(size)
-    words = ["sgdisk", "-a", "1"]
-    for number, (first, last) in enumerate(places, 1):
-        words += ["-n", f"{number}:{first}:{last}", "-c", f"{number}:part {number}"]
-    subprocess.run([*words, path], check=True, capture_output=True)
-    subprocess.run([ptab, "repair", path], check=True, capture_output=True)
-
-
-def chain(path, size, count):
-    """An extended partition with that many logicals of 1 MiB less a sector."""
-    image = SMALL.mbr(size // 512, [record(0x0F, 2048, 2048 * (count + 1))])
-    for k in range(count):
-        link = record(0x05, 2048 * (k + 1), 2048) if k + 1 < count else bytes(16)
-        SMALL.put(image, 2048 * (k + 1), ebr(record(0x83, 1, 2047), link))
-    with open(path, "wb") as it:
-        it.write(image)
-
-
-def apart(count):
-    return [(2048 * k, 2048 * k + 1999) for k in range(1, count + 1)]
-
-
-MAKE = {
-    ONE: lambda ptab, path: gpt_by_sgdisk(ptab, path, 64 * MIB, apart(1)),
-    FULL: lambda ptab, path: gpt_by_sgdisk(ptab, path, 256 * MIB, apart(128)),
-    TIGHT: lambda ptab, path: gpt_by_sgdisk(ptab, path, 2 * MIB, [(34 + 31 * k, 64 + 31 * k) for k in range(128)]),
-    CHAIN: lambda ptab, path: chain(path, 256 * MIB, LOGICALS),
-    LARGE: lambda ptab, path: gpt_by_sgdisk(ptab, path, 1 << 40, apart(1)),
-}
 
 
 def jobs(ptab, image, title):
@@ -99,13 +57,6 @@ def jobs(ptab, image, title):
         return {"show": {it: shows[it] for it in ("ptab", "sfdisk", "parted")}, "verify": {it: verifies[it] for it in ("ptab", "sfdisk")}}
     repairs = {"ptab": [ptab, "repair", image], "cgpt": ["cgpt", "repair", image]}
     return {"show": shows, "verify": verifies, "rename": renames, "repair": repairs}
-
-
-def damage(path):
-    """Zeros over the primary header."""
-    with open(path, "r+b") as it:
-        it.seek(512)
-        it.write(bytes(512))
 
 
 def table(ptab, folder):
