@@ -15,6 +15,16 @@ need gcc gcc
 need c++ g++
 need grub-fstest grub-common
 need kpartx kpartx
+need growpart cloud-guest-utils
+need udevadm udev
+need cfdisk fdisk
+need genimage genimage
+if [ "$(uname -m)" = x86_64 ]; then
+  need grub-install grub2-common
+  [ -e /usr/lib/grub/i386-pc ] || missing+=(grub-pc-bin)
+fi
+need systemd-repart systemd
+[ -e /usr/lib/python3/dist-packages/parted ] || missing+=(python3-parted)
 need valgrind valgrind
 need jq jq
 need zsh zsh
@@ -23,7 +33,10 @@ need fish fish
 [ -e /usr/include/fuse3/fuse.h ] || missing+=(libfuse3-dev)
 for word in "$@"; do
   case "$word" in
-    bench) [ -e /usr/include/zlib.h ] || missing+=(zlib1g-dev) ;;
+    bench)
+      [ -e /usr/include/zlib.h ] || missing+=(zlib1g-dev)
+      [ -e /usr/include/libfdisk/libfdisk.h ] || missing+=(libfdisk-dev)
+      ;;
     *) echo "usage: tests/install.sh [bench]" >&2; exit 2 ;;
   esac
 done

@@ -64,6 +64,8 @@ def bodies_of(crate):
         one, uses, ghosts = dict(fields), *([value for key, value in fields if key == it] for it in ("use", "ghost"))
         if one.keys() - {"use", "ghost", "tried"} != {"name", "of", "refused"} or one.get("tried", "by hand") != "by hand" or not text:
             sys.exit(f"wrong_bodies.py: {table_of(crate)}: not a wrong body:\n{block}")
+        if one["name"] in {it.name for it in found}:
+            sys.exit(f"wrong_bodies.py: {table_of(crate)}: two bodies with one name: {one['name']}")
         found.append(Body(one["name"], one["of"], text, one["refused"], uses, ghosts, "tried" in one))
     return found
 
@@ -71,7 +73,7 @@ def bodies_of(crate):
 def with_right_ones(bodies):
     """These, and behind them a right body for each of their functions, with the ghost values that the first one takes."""
     functions = {f"{it.file} {it.of}": it.ghosts for it in reversed(bodies)}
-    return [*bodies, *(Body("right_" + re.sub(r"\W+", "_", it.partition(" ")[2]).strip("_"), it, ghosts=ghosts)
+    return [*bodies, *(Body("right_" + re.sub(r"\W+", "_", it.removeprefix("src/").replace(".rt ", " ")).strip("_"), it, ghosts=ghosts)
                        for it, ghosts in functions.items())]
 
 

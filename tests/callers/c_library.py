@@ -1,14 +1,16 @@
 #!/usr/bin/env python3
 """The C library beside the command: the header compiled as C and as C++, with all warnings; on images changed at random, of every kind and
 both sector sizes, one answer, one status and one image after an edit or a repair, each plan taken by the command's `check`'s twin, and no
-sector asked for twice; plans by what becomes of the primary copy, byte by byte (kept_plans.py), which is whole at each stop where it is
-kept; each request for memory refused in turn; the whole reply of each status (c_replies.py); valgrind silent where it is installed; the C
-example cut in each phase of its writes.
+sector asked for twice; the table as text and back, free blocks, and the tables of texts that are drawn (random_tables.py), their faults
+among them; plans by what becomes of the primary copy, byte by byte (kept_plans.py), which is whole at each stop where it is
+kept; each request for memory refused in turn; the whole reply of each status (c_replies.py, c_texts.py); valgrind silent where it is
+installed; the C example cut in each phase of its writes.
 
 usage: tests/callers/c_library.py PTAB ARCHIVE [COUNT]     ARCHIVE is crates/pt_c/out/libpt_c.a
 """
 import collections
 import ctypes
+import json
 import os
 import random
 import re
@@ -20,6 +22,7 @@ HERE = os.path.dirname(os.path.abspath(__file__))
 ROOT = os.path.dirname(os.path.dirname(HERE))
 sys.path.insert(0, os.path.join(ROOT, "tests", "shared"))
 import c_replies
+import c_texts
 import images
 import kept_plans
 import plans
@@ -38,7 +41,10 @@ def of_test(name):
     return found
 
 
-HOSTILE = of_test("hostile")
+HOSTILE, TABLES = of_test("hostile"), of_test("random_tables")
+KEYS = ("text", "partitiontable", "unknown", "label", "device", "unit", "sectorsize", "sectors", "id", "firstlba", "lastlba", "entries",
+        "table-length", "partitions", "chain", "number", "node", "start", "size", "last", "offset", "type", "type_name", "uuid", "name",
+        "name_units", "attributes", "attrs", "bootable", "boot", "start_chs", "end_chs", "record", "bsd")
 CALLS = ("openat", "pwrite64", *SYNCS)
 WARNINGS = ("-Wall", "-Wextra", "-pedantic", "-Werror", "-O2")
 # the interface's number, and a view, which has the size that it had before it had a `primary`
@@ -135,7 +141,21 @@ def refusal(failed, words):
             3: no_table(reply) if reply.about == 3 else "", 9: "refused: other size\n" if reply.number == 1 else "",
             10: f"other: {no_table(reply)}" if reply.about == 10 else "", 5: f"refused: edit {reply.number}\n",
             6: f"refused: plan {reply.number}\n", 7: f"refused: check {reply.number}\n",
-            8: f"refused: repair {reply.number}\n"}[reply.about]
+            8: f"refused: repair {reply.number}\n", 11: f"refused: table {KEYS[reply.number - 1]}" + f" {reply.a}" * (reply.a > 0) + "\n",
+            }[reply.about]
+
+
+def told_by(call):
+    """(status, output, errors) of a call that gives a text."""
+    try:
+        return 0, call() + "\n", ""
+    except lib.Failed as failed:
+        return failed.status, "", no_table(failed.reply)
+
+
+def blocks(disk):
+    """The free blocks of a disk, as lines."""
+    return "\n".join(f"{first} {last}" + f" {inside}" * (inside > 0) for first, last, inside in disk.free()) or "none"
 
 
 def carried_out(image, phases, size):
@@ -163,6 +183,7 @@ class Beside:
     def __init__(self, it, runner):
         self.it, self.runner, self.stops = it, runner, 0
         self.turns, self.adopted = collections.defaultdict(collections.Counter), collections.Counter()
+        self.was_set = collections.Counter()
 
     def image(self, sectors, image):
         self.sectors, self.bytes, self.size = sectors, bytes(image), sectors.size
@@ -213,6 +234,10 @@ class Beside:
         except lib.Failed as failed:
             mine = (failed.status, "", no_table(failed.reply))
         self.same("locate", mine, self.run("locate", where, str(k)))
+        self.text = told_by(lambda: self.disk().text(self.runner.path))
+        self.same("text", self.text, self.run("show", "--json"))
+        status, found, errors = told_by(lambda: blocks(self.disk()))
+        self.same("free", (1 if found == "none\n" else status, found, errors), self.run("free"))
 
     def taken(self, phases, rng):
         """The plan is taken by the library's checker, and with a sector moved it is not what it was."""
@@ -242,6 +267,32 @@ class Beside:
         self.same("repair", mine, (*self.run("repair"), self.after()))
         self.taken(phases, rng)
 
+
+    def sets(self, rng):
+        """The table of a text: its own, which changes nothing on a healthy GPT, that one with members changed, or one that is drawn."""
+        self.image(self.sectors, self.bytes)
+        table = {"partitiontable": TABLES["drawn"](rng, self.sectors, self.bytes)}
+        if self.text[0] == 0 and rng.randrange(3):
+            table = json.loads(self.text[1])
+        for _ in range(rng.choice((0, 1, 2))):
+            TABLES["mutate"](rng, table)
+        drawn = rng.randbytes(16 * rng.choice((0, 1, 200, 200)))
+        changed_text = json.dumps(table, indent=rng.choice((None, 1)))
+        self.set_by(rng, (self.text[1] if rng.randrange(4) == 0 else changed_text).encode("utf-8"), drawn)
+
+    def set_by(self, rng, text, drawn):
+        """One text, by each choice of what becomes of the primary copy."""
+        path, fresh = f"{self.runner.path}.json", ["--fresh", drawn.hex()] if drawn else []
+        with open(path, "wb") as file:
+            file.write(text)
+        kept, by_table = self.run("set", "--plan", *fresh, path), self.run("set", "--plan", "--by-table", *fresh, path)
+        for primary, theirs in ((lib.OF_ITSELF, kept), (lib.KEPT, kept), (lib.BY_TABLE, by_table)):
+            self.planned(rng, "set", primary, lambda disk: disk.set(text, drawn), [], theirs)
+        mine, phases = changed(lambda: self.disk().set(text, drawn), self.bytes, self.size, [])
+        self.same("set", mine, (*self.run("set", *fresh, path), self.after()))
+        self.image(self.sectors, self.bytes)
+        self.taken(phases, rng)
+        self.was_set[mine[2] or ("done" if phases else "nothing to do")] += 1
 
     def adopts(self, rng, other):
         """The image takes the table of another one of the same size of sectors."""
@@ -302,16 +353,21 @@ def beside(it, ptab, folder, count):
         runs.image(sectors, image)
         runs.reads(rng)
         runs.writes(rng)
+        runs.sets(rng)
         runs.adopts(rng, others(rng, runs, before.get(sectors.size)))
         before[sectors.size] = image
     for what, turns in runs.turns.items():
         print(what, "by calls:", dict(sorted(turns.items())), file=sys.stderr)
     print("adopted:", dict(runs.adopted.most_common()), "stops with the primary copy kept:", runs.stops, file=sys.stderr)
+    print("set:", dict(runs.was_set.most_common()), file=sys.stderr)
+    ends = ("done", "nothing to do", *(f"refused: {it}\n" for it in ("table text", "table unknown", "plan 4")))
+    if not all(runs.was_set[it] for it in ends):
+        fail("no table was set, or none was refused:", dict(runs.was_set))
     if not all(runs.adopted[it] for it in ("done", "refused: other size\n", "other: no table: copies 1 1\n")):
         fail("no image was adopted, or none was refused:", dict(runs.adopted))
     if runs.stops == 0:
         fail("no plan that keeps the primary copy was stopped")
-    return 14 * count + runs.stops
+    return 20 * count + runs.stops
 
 
 def by_choice(it, ptab, folder):
@@ -361,11 +417,14 @@ def without_memory(library):
                     return failed.status
 
             phases = [[(0, bytes(size))]]
+            texts = (b'{"partitiontable": {"label": "gpt", "partitions": [{"size": "4KiB", "name": "x"}, {}]}}',
+                     b'{"partitiontable": {"partitions": [{"nmae": "x"}]}}')
             other, kept = (lib.Disk(it, lambda k, of=of: of[k * size:(k + 1) * size], len(of) // size, size, primary)
                            for of, primary in ((image, lib.OF_ITSELF), (content, lib.KEPT)))
             for call in (disk.members, disk.verify, lambda: disk.locate(1, "", 0), lambda: disk.plan(words, bytes(range(16)) * 4),
                          disk.repair, lambda: disk.adopt(other), lambda: disk.check(phases), lambda: kept.plan(words, bytes(range(16)) * 4),
-                         kept.repair):
+                         kept.repair, lambda: disk.text("disk.img"), disk.free, lambda: disk.set(texts[0], bytes(range(16)) * 4),
+                         lambda: disk.set(texts[1])):
                 it.lib.test_refuse(0, 0)
                 wanted = answer(call)
                 count = it.lib.test_requests()
@@ -509,7 +568,7 @@ def main():
         it = lib.Ptab(shared)
         runs = beside(it, ptab, folder, count)
         runs += by_choice(it, ptab, folder)
-        runs += c_replies.checked(it)
+        runs += c_replies.checked(it, (*c_replies.PARTS, *c_texts.PARTS))
         runs += without_memory(refusing)
         runs += example_beside(ptab, example, folder)
         runs += cut(ptab, example, folder)

@@ -1,5 +1,6 @@
-"""The whole reply of the C library, field by field, for each status and each call; c_library.py runs it. What is expected is worked
-out by hand: words, findings, refusals and reasons by docs/commands.md, plans by docs/model.md (kinds, phases), arguments by docs/c.md."""
+"""The whole reply of the C library, field by field, for each status and each call, but for tables as text (c_texts.py); c_library.py runs
+it. What is expected is worked out by hand: words, findings, refusals and reasons by docs/commands.md, plans by docs/model.md (kinds,
+phases), arguments by docs/c.md."""
 import ctypes
 
 import images
@@ -8,8 +9,9 @@ from images import LARGE, SMALL
 
 FIELDS = [name for name, _ in lib.Reply._fields_]
 DRAWN = bytes(range(16)) * 8
-ARGUMENT, WORD, TABLE, FINDING, EDIT, PLAN, CHECK, REPAIR, ADOPT, OTHER_TABLE = 1, 2, 3, 4, 5, 6, 7, 8, 9, 10
-SIZE, VIEW, PATH, RANDOM, WORDS, ROWS, OTHER_SIZE, OTHER_VIEW = 1, 2, 3, 4, 5, 6, 7, 8
+ARGUMENT, WORD, TABLE, FINDING, EDIT, PLAN, CHECK, REPAIR, ADOPT, OTHER_TABLE, TEXT = 1, 2, 3, 4, 5, 6, 7, 8, 9, 10, 11
+SIZE, VIEW, PATH, RANDOM, WORDS, ROWS, OTHER_SIZE, OTHER_VIEW, NO_TEXT = 1, 2, 3, 4, 5, 6, 7, 8, 9
+TEXT_OF_ONE = b'{"partitiontable": {"label": "gpt", "partitions": [{"start": 100, "size": 8}]}}'
 # for each number of a fault words with it, by the table of words: another letter; another count of fields; no number or path, or out of its
 # range; no GUID; no code
 FAULTS = {1: (b"x", b"", b"aa:1", b"N:1:0:0"), 2: (b"d", b"e:1", b"n:1:0", b"c:1", b"t:1:83:1"),
@@ -106,6 +108,25 @@ class Calls:
     def plan(self, given, words=b"c:1:data\0", drawn=DRAWN, rows=lib.MOST_WRITES, room=None):
         return self.fills(self.lib.ptab_plan, given, rows, room, words, len(words), drawn, len(drawn))
 
+    def text(self, given, device=b"disk.img", room=lib.MOST_TEXT):
+        text = Buffer(ctypes.c_uint8, room)
+        status, found = self.ends(self.lib.ptab_table_text, given, device, len(device), text.items, room)
+        count = found[1] if status == lib.DONE else 0
+        text.stays(count)
+        self.told = bytes(text.items)[:count]
+        return status, found
+
+    def free(self, given, room=lib.MOST_BLOCKS):
+        rows = Buffer(lib.Block, room)
+        status, found = self.ends(self.lib.ptab_free, given, rows.items, room)
+        count = found[1] if status == lib.DONE else 0
+        rows.stays(count)
+        self.blocks = [(row.first, row.last, row.inside) for row in rows.items[:count]]
+        return status, found
+
+    def set(self, given, text=TEXT_OF_ONE, drawn=DRAWN, rows=lib.MOST_WRITES, room=None):
+        return self.fills(self.lib.ptab_set_plan, given, rows, room, text or b"\0", len(text), drawn, len(drawn))
+
     def repair(self, given, rows=lib.MOST_WRITES, room=None):
         return self.fills(self.lib.ptab_repair, given, rows, room)
 
@@ -127,7 +148,8 @@ class Calls:
         return self.check(given, rows, bytes(self.data.items)[:self.count * given.size])
 
     def all(self):
-        return self.members, self.verify, self.locate, self.plan, self.repair, self.check, self.adopt, self.wanted
+        return (self.members, self.verify, self.locate, self.plan, self.repair, self.check, self.adopt, self.wanted, self.text, self.free,
+                self.set)
 
 
 def sliced(entries, **fields):
@@ -168,6 +190,11 @@ def arguments(calls):
         yield calls.plan(Given(gpt), drawn=drawn), misused(RANDOM)
     for words in (b"", b"e", b"e\0c:1:a", b"c:1:\xff\0", b"e\0c:1:\xc3\0", b"\xff"):
         yield calls.plan(Given(gpt), words), misused(WORDS)
+    for drawn in (b"1", DRAWN[:15], DRAWN[:17]):
+        yield calls.set(Given(gpt), drawn=drawn), misused(RANDOM)
+    for text in (b"\xff", b"a\xc3", b"\xed\xa0\x80", b"\xc0\x80", b"\xf4\x90\x80\x80"):
+        yield calls.set(Given(gpt), text), misused(NO_TEXT)
+        yield calls.text(Given(gpt), text), misused(NO_TEXT)
     # bytes that are no sector for each row, whatever the rows
     for rows, length in (([(0, 1)], 511), ([(0, 1)], 513), ([(0, 1)], 0), ([(0, 1)], 1024), ([(0, 0)], 511), ([], 512)):
         yield calls.check(Given(gpt), rows, bytes(length)), misused(ROWS)
@@ -195,6 +222,13 @@ def several(calls):
     yield calls.plan(Given(gpt).but(primary=3), b"x\0"), (lib.USAGE, reply(about=WORD, number=1, a=1))
     yield calls.check(Given(gpt).but(primary=3), [(0, 0)]), misused(ROWS, a=1)
     yield calls.verify(Given(gpt).but(primary=3, sector_size=1024)), misused(SIZE)
+    # the random bytes, then the text, then the view; and a fault of the text once each argument has a meaning
+    yield calls.set(Given(gpt).but(**worse), b"\xff", b"1"), misused(SIZE)
+    yield calls.set(Given(gpt).but(**bad), b"\xff", b"1"), misused(RANDOM)
+    yield calls.set(Given(gpt).but(**bad), b"\xff", b""), misused(NO_TEXT)
+    yield calls.set(Given(gpt).but(**bad), b"x", b""), misused(VIEW)
+    yield calls.text(Given(gpt).but(**worse), b"\xff"), misused(SIZE)
+    yield calls.text(Given(gpt).but(**bad), b"\xff"), misused(NO_TEXT)
     # of two disks: the size, the other's size, the view, the other view
     large = LARGE.gpt(64, {1: images.entry(6, 40)})
     for size in (0, 513, 4096):
@@ -271,7 +305,7 @@ def by_choice(calls):
             yield calls.check_last(given), (lib.DONE, reply(a=switch))
     for primary in (lib.OF_ITSELF, lib.KEPT, lib.BY_TABLE):
         for given in (gpt, lost[1], empty):
-            for call in (calls.members, calls.verify, calls.locate, calls.check, calls.wanted):
+            for call in (calls.members, calls.verify, calls.locate, calls.check, calls.wanted, calls.text, calls.free):
                 yield call(given.but(primary=primary)), call(given.but(primary=lib.OF_ITSELF))
         for k in (*range(34), *range(4063, 4096)):
             for call in (calls.plan, calls.repair):
@@ -331,7 +365,7 @@ def refused(calls):
     ]
     for image, fields in tables:
         given, told = Given(image), (lib.NO_TABLE, reply(about=TABLE, **fields))
-        for call in (calls.members, calls.locate, calls.repair, lambda it: calls.plan(it, b"d:1\0")):
+        for call in (calls.members, calls.locate, calls.repair, lambda it: calls.plan(it, b"d:1\0"), calls.text, calls.free):
             yield call(given), told
         other = (lib.NO_TABLE, reply(about=OTHER_TABLE, **fields))
         for disk in (image, bytes(len(image))):
@@ -340,7 +374,9 @@ def refused(calls):
     longer = Given(SMALL.gpt(4097, {1: images.entry(2048, 4062)}))
     for disk, another in ((gpt, longer), (longer, gpt), (gpt, Given(bytes(512 * 4095), only=()))):
         yield calls.adopt(disk, another), (lib.REFUSED, reply(about=ADOPT, number=1))
-    yield calls.adopt(gpt, Given(SMALL.mbr(4096, [images.record(0x83, 40, 100)]))), (lib.REFUSED, reply(about=PLAN, number=1))
+    early = SMALL.mbr(4096, [images.record(0x05, 10, 50)])
+    SMALL.put(early, 10, images.ebr(images.record(0x83, 4, 20)))
+    yield calls.adopt(gpt, Given(early)), (lib.REFUSED, reply(about=PLAN, number=1))
     yield calls.adopt(gpt, Given(overlap)), (lib.REFUSED, reply(about=PLAN, number=4))
 
 
@@ -351,8 +387,10 @@ def wanted(calls):
         given = Given(gpt, without={k})
         for call in (calls.verify, calls.plan, calls.repair):
             yield call(given), (lib.WANT, reply(sector=k))
-        for call, answer in ((calls.members, (lib.DONE, reply(count=1))), (calls.locate, (lib.DONE, reply(sector=2048)))):
+        for call, answer in ((calls.members, (lib.DONE, reply(count=1))), (calls.locate, (lib.DONE, reply(sector=2048))),
+                             (calls.free, (lib.DONE, reply(count=1)))):
             yield call(given), (lib.WANT, reply(sector=k)) if k < 34 else answer
+        yield (calls.text(given)[0], ()), (lib.WANT if k < 34 else lib.DONE, ())
     ends = Given(gpt, only=(*range(34), *range(4063, 4096)))
     yield calls.verify(ends), (lib.DONE, reply())
     yield calls.plan(ends), (lib.DONE, reply(count=67, phases=4))
@@ -368,6 +406,10 @@ def wanted(calls):
         yield calls.adopt(Given(gpt, without={k}), Given(other)), (lib.WANT, reply(sector=k))
         lacking = Given(other, without={k})
         yield calls.adopt(Given(gpt), lacking), (lib.WANT_OTHER, reply(sector=k)) if k < 34 else (lib.DONE, reply(count=67, phases=4))
+    # an MBR in place of a GPT: of that what recovery reads, and the headers that are zeroed
+    plain = SMALL.mbr(4096, [images.record(0x83, 40, 100)])
+    yield calls.adopt(ends, Given(plain, only=(0,))), (lib.DONE, reply(count=3, phases=3))
+    yield calls.adopt(Given(gpt, only=range(34)), Given(plain, only=(0,))), (lib.WANT, reply(sector=4095))
     sliced_other = SMALL.gpt(4096, {2: images.entry(100, 300, images.FREEBSD)})
     yield calls.adopt(ends, Given(sliced_other, only=(*range(34), *range(4063, 4096)))), (lib.WANT_OTHER, reply(sector=101))
     yield calls.adopt(ends, Given(sliced_other)), (lib.WANT, reply(sector=101))
@@ -437,10 +479,13 @@ def room(calls):
     yield calls.repair(kept, 33, 33 * 512), (lib.DONE, reply(count=33, phases=1))
 
 
-def checked(it):
+PARTS = (arguments, several, unreadable, done, by_choice, no, refused, wanted, listed, twice, room)
+
+
+def checked(it, parts):
     """Compares them all, and says how many there were; `it` is the library."""
     calls, count = Calls(it), 0
-    for part in (arguments, several, unreadable, done, by_choice, no, refused, wanted, listed, twice, room):
+    for part in parts:
         for number, (found, expected) in enumerate(part(calls)):
             if found != expected:
                 raise SystemExit(f"C library: {part.__name__} {number}: {told(*found)}, wanted {told(*expected)}")
@@ -449,4 +494,6 @@ def checked(it):
 
 
 def told(status, fields):
+    if isinstance(status, (bytes, list, dict)):
+        return repr(status)
     return f"status {status} " + " ".join(f"{name} {value}" for name, value in zip(FIELDS, fields) if value)

@@ -12,6 +12,9 @@ from doubles import phases_of
 
 ALL = 2 ** 32 - 1
 FAILS, DONE_AND_FAILS, ONE_BYTE, NOTHING = range(4)
+# with all GUIDs, so that each run makes the same table
+TABLE = """{"partitiontable": {"label": "gpt", "id": "00010203-0405-4607-8809-0A0B0C0D0E0F", "partitions": [
+  {"start": 40, "size": 8, "name": "set", "uuid": "10111213-1415-4617-9819-1A1B1C1D1E1F"}]}}"""
 DEVICE, MEMORY = ("", "device\n", 5), (("", "memory\n", 6), ("", "other: memory\n", 6))
 HARMLESS = {"r": ((FAILS, errno.EINTR), (FAILS, errno.EINVAL), (ONE_BYTE, 0)), "w": ((FAILS, errno.EINTR), (ONE_BYTE, 0)),
             "f": ((FAILS, errno.EINTR),), "l": ((FAILS, errno.EINTR),), "o": ((FAILS, errno.EINTR),), "c": ((FAILS, errno.EIO),)}
@@ -121,16 +124,28 @@ class Job:
         return runs
 
 
+def text_at(it, text):
+    """The name of a file with the text of a table."""
+    name = f"{it.path}.json"
+    with open(name, "w", encoding="utf-8") as file:
+        file.write(text)
+    return name
+
+
 def jobs(ptab, it):
-    """Each line on each disk that it has something to do on."""
+    """Each line on each disk that it has something to do on. A text is that of the disk after the edit, where that is a GPT's."""
     for name, sectors, image, words in disks():
         words = [word for word in words if word not in faults.FRESH]
         it.put(bytes(image))
         other = f"{it.path}.other"
         shutil.copyfile(it.path, other)
         by(ptab, ("edit", other, "--sector-size", str(sectors.size), *faults.FRESH, *words))
-        for line, planned in ((["show"], None), (["verify"], None), (["locate", "1", "0"], None),
-                              (["edit", *words], ("plan", *faults.FRESH, *words)), (["adopt", other], ("adopt", "--plan", other))):
+        text = by(ptab, ("show", "--json", other, "--sector-size", str(sectors.size)))[0]
+        table = text_at(it, text)
+        sets = [(["set", table], ("set", "--plan", table))] if '"label": "gpt"' in text else []
+        reads = (["show"], ["show", "--json"], ["verify"], ["locate", "1", "0"], ["free"])
+        for line, planned in (*((line, None) for line in reads),
+                              (["edit", *words], ("plan", *faults.FRESH, *words)), (["adopt", other], ("adopt", "--plan", other)), *sets):
             yield Job(ptab, it, name, sectors, image, line, planned)
 
 
@@ -157,7 +172,8 @@ def memory(ptab, example, folder):
         it.put(image)
         other = f"{it.path}.other"
         shutil.copyfile(it.path, other)
-        for line in (["show"], ["verify"], ["edit", *words], ["repair"], ["adopt", other]):
+        table = text_at(it, TABLE)
+        for line in (["show"], ["show", "--json"], ["verify"], ["free"], ["edit", *words], ["repair"], ["adopt", other], ["set", table]):
             it.put(image)
             line = (it.path, str(sectors.size), *line)
             wanted, count, after = it.run(line, (0, 0, 0, 0)), it.number(2), it.image()

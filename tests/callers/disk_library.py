@@ -3,8 +3,9 @@
 compiled as C and as C++, and the small programs of docs/c.md run. On images changed at random, of every kind and both sector sizes, each
 call answers what the command answers, and leaves the image that the command leaves. Then: plans by what becomes of the primary copy
 (kept_plans.py), as they are given and as they are written; several edits in one opening; the lock, held elsewhere and held here; files of
-other kinds; each call on the image failing in turn, and each request for memory; a file that can't grow; plans, checked and applied. As
-root, where there are loop devices, also on those of 512 and of 4096 bytes.
+other kinds; how often the library is asked on a chain, and what is read of it (disk_chains.py); each call on the image failing in turn,
+and each request for memory; a file that can't grow; plans, checked and applied. As root, where there are loop devices, also on those of
+512 and of 4096 bytes.
 
 usage: tests/callers/disk_library.py PTAB ARCHIVE [COUNT]     ARCHIVE is crates/pt_c/out/libpt_c.a
 """
@@ -12,6 +13,7 @@ import contextlib
 import ctypes
 import errno
 import fcntl
+import json
 import os
 import random
 import resource
@@ -24,13 +26,16 @@ HERE = os.path.dirname(os.path.abspath(__file__))
 ROOT = os.path.dirname(os.path.dirname(HERE))
 sys.path[:0] = [os.path.join(ROOT, "tests", "shared"), os.path.join(ROOT, "bindings", "python")]
 import compared
+import disk_chains
 import disk_faults
 import disk_system
+import disk_texts
 import images
 import kept_plans
 import ptab as lib
 import replay
 from compared import content, put, same
+from disk_calls import error_of, must
 from doubles import text_of
 from images import LARGE, SMALL, room
 from other_test import of_test
@@ -43,23 +48,7 @@ WORDS = (["a:2048"], ["c:1:name"], ["d:1"], ["n:0:0:0"], ["o"], ["o", "n:0:0:+8"
          ["U:e896e426-a4e9-4c9e-8d92-b56974f85fcf"])
 
 
-HOSTILE = of_test("hostile")
-
-
-def must(*words, **more):
-    done = subprocess.run(words, capture_output=True, text=True, **more)
-    if done.returncode != 0 or done.stderr:
-        sys.exit(f"{words}: status {done.returncode}\n{done.stdout}{done.stderr}")
-    return done.stdout
-
-
-def error_of(call):
-    """The error that a call ends with."""
-    try:
-        found = call()
-    except lib.Error as error:
-        return error
-    sys.exit(f"disk library: {found!r}, and an error was wanted")
+HOSTILE, TABLES = of_test("hostile"), of_test("random_tables")
 
 
 # what is built
@@ -79,9 +68,9 @@ int main(void) { ptab_disk_close(0); return ptab_version() == PTAB_VERSION ? 0 :
                 must(compiler, standard, *WARNINGS, include, f"{folder}/{name}", f"{folder}/libptab.a", "-o", f"{folder}/h")
                 same(f"{compiler} {standard}", must(f"{folder}/h"), "")
     for compiler in compilers[0]:
-        for source in ("ptab_disk", "ptab_disk_open", "ptab_disk_io", "ptab_disk_text", "ptab_disk_list"):
+        for source in ("ptab_disk", "ptab_disk_open", "ptab_disk_io", "ptab_disk_mbr", "ptab_disk_text", "ptab_disk_list"):
             must(compiler, "-std=c11", *WARNINGS, include, "-c", f"{ROOT}/bindings/c/{source}.c", "-o", f"{folder}/{source}.o")
-    for name in ("ptab", "rename", "keep_primary"):
+    for name in ("ptab", "rename", "keep_primary", "set"):
         must("cc", "-std=c11", *WARNINGS, include, f"{ROOT}/examples/c/{name}.c", f"{folder}/libptab.a", "-o", f"{folder}/{name}_c")
     return f"{folder}/ptab_c"
 
@@ -106,6 +95,14 @@ def small_programs(ptab, folder):
             same(program, must(*program, cwd=folder, env=where), wanted)
             same("the renamed partition", must(ptab, "show", image).splitlines()[1].split()[-1], "archive")
             same("it is healthy", must(ptab, "verify", image), "yes\n")
+    for path in ("examples/python/set.py", "examples/c/set.c", "bindings/rust/examples/set.rs"):
+        same(f"docs/c.md has {path}", content(f"{ROOT}/{path}") in content(f"{ROOT}/docs/c.md"), True)
+    put(image, bytes(64 << 20))
+    same("set.c", must(f"{folder}/set_c", cwd=folder), "67 sectors written\n")
+    same("its partitions", [line.split()[-1] for line in must(ptab, "show", image).splitlines()[1:]], ["EFI", "root"])
+    put(image, bytes(64 << 20))
+    same("set.py", must(sys.executable, f"{ROOT}/examples/python/set.py", cwd=folder, env=where),
+         "8200\n8300\nobject 1 of `partitions` has a fault at `unknown` / unknown 1\n")
     ends = (bytes(1 << 20), 4, f"there is no table: {NO_COPY}\n"), (None, 5, f"the disk can't be opened: {os.strerror(errno.ENOENT)}\n")
     for blank, status, told in ends:
         put(image, blank) if blank else os.remove(image)
@@ -144,8 +141,11 @@ def beside(ptab, example, folder, count):
         words = rng.choice(WORDS)
         put(path, image)
         where = HOSTILE["place"](theirs.run("show", sectors), sectors, rng)
-        for command, given, fresh in (("show", (), ()), ("verify", (), ()), ("locate", (where[0], str(where[1])), ()), ("repair", (), ()),
-                                      ("edit", words, ("--fresh", DRAWN.hex())), ("adopt", (other,), ())):
+        text = put(f"{folder}/text", drawn_text(theirs, rng, sectors, image))
+        for command, given, fresh in (("show", (), ()), ("show", ("--json",), ()), ("verify", (), ()), ("free", (), ()),
+                                      ("locate", (where[0], str(where[1])), ()), ("repair", (), ()),
+                                      ("edit", words, ("--fresh", DRAWN.hex())), ("adopt", (other,), ()),
+                                      ("set", (text,), ("--fresh", DRAWN.hex()))):
             answers = []
             for it, more in ((theirs, fresh), (mine, ())):
                 put(path, image)
@@ -154,6 +154,16 @@ def beside(ptab, example, folder, count):
         by_plan(theirs, sectors, image, words, (None, True, False)[number % 3])
         listed(theirs, sectors)
         put(other, content(path))
+
+
+def drawn_text(command, rng, sectors, image):
+    """A text for the image: its own, changed or not, or one that is drawn (random_tables.py)."""
+    status, text, _ = command.run("show", sectors, "--json")
+    own = status == 0 and rng.randrange(3)
+    table = json.loads(text) if own else {"partitiontable": TABLES["drawn"](rng, sectors, image)}
+    for _ in range(rng.choice((0, 0, 1, 2))):
+        TABLES["mutate"](rng, table)
+    return json.dumps(table).encode()
 
 
 class Partition(ctypes.Structure):
@@ -554,6 +564,8 @@ def main():
         small_programs(ptab, folder)
         beside(ptab, example, folder, count)
         by_choice(folder)
+        disk_texts.as_text(ptab, folder, EDITS, DRAWN)
+        disk_texts.faults(folder)
         in_one_opening(ptab, folder)
         locks(ptab, folder)
         refusals(folder)
@@ -561,6 +573,7 @@ def main():
         drawn_guids(folder)
         full_files(ptab, folder)
         long_plans(folder)
+        disk_chains.tried(folder, 3 * count)
         medium = disk_system.tried(ptab, example, folder)
         compared.count += disk_faults.calls(ptab, example, folder)
         compared.count += disk_faults.memory(ptab, example, folder)

@@ -11,6 +11,7 @@ import filecmp
 import glob
 import os
 import re
+import shlex
 import shutil
 import stat
 import subprocess
@@ -22,11 +23,18 @@ sys.path.insert(0, os.path.join(TOP, "tests", "shared"))
 import compared
 from commands import COMMANDS
 from compared import same
+MODULES = [name for name in os.listdir(f"{TOP}/tools/ptab_run") if name.endswith(".py")]
+SAFE = ("cfdisk", "cgpt", "fdisk", "gdisk", "growpart", "parted", "sfdisk", "sgdisk")
 PLACES = {"bin/ptab": (None, 0o755), "bin/ptab-run": ("tools/ptab-run", 0o755), "share/man/man8/ptab.8": ("man/ptab.8", 0o644),
           "share/man/man8/ptab-run.8": ("man/ptab-run.8", 0o644),
           "share/bash-completion/completions/ptab": ("completion/ptab.bash", 0o644),
           "share/zsh/site-functions/_ptab": ("completion/ptab.zsh", 0o644),
-          "share/fish/vendor_completions.d/ptab.fish": ("completion/ptab.fish", 0o644)}
+          "share/fish/vendor_completions.d/ptab.fish": ("completion/ptab.fish", 0o644),
+          "share/bash-completion/completions/ptab-run": ("completion/ptab-run.bash", 0o644),
+          "share/zsh/site-functions/_ptab-run": ("completion/ptab-run.zsh", 0o644),
+          "share/fish/vendor_completions.d/ptab-run.fish": ("completion/ptab-run.fish", 0o644),
+          **{f"lib/ptab/ptab_run/{name}": (f"tools/ptab_run/{name}", 0o644) for name in MODULES},
+          **{f"lib/ptab/safe/{name}": ("tools/safe/tool", 0o755) for name in SAFE}}
 # the headers and the modules for Python, and what is made of the archive
 SOURCES = {**{f"include/{os.path.basename(it)}": it for it in glob.glob(f"{TOP}/include/*.h")},
            **{f"lib/python3/dist-packages/{os.path.basename(it)}": it for it in glob.glob(f"{TOP}/bindings/python/*.py")}}
@@ -49,6 +57,9 @@ COMPLETIONS = (
     ("ptab show --j", ["--json"]), ("ptab show --json ", IMAGES), ("ptab show --json a.img ", []), ("ptab ty", ["types"]),
     ("ptab help ty", ["types"]), ("ptab types ", []), ("ptab types --h", ["--help"]), ("ptab types --d", []), ("ptab verify --j", []),
     ("ptab se", ["set"]), ("ptab set ", IMAGES), ("ptab set a.img n", ["notes"]), ("ptab set a.img notes ", []),
+    ("ptab-run --as", ["--as-itself"]), ("ptab-run --sector-size ", ["512", "4096"]), ("ptab-run --sector-size=4", ["4096"]),
+    ("ptab-run --in", ["--in-use"]), ("ptab-run --lossy ", IMAGES), ("ptab-run --device --q", ["--quiet"]),
+    ("ptab-run --save n", ["notes"]), ("ptab-run --data-l", ["--data-limit"]), ("ptab-run --data --data-limit 1G ", IMAGES),
     ("ptab set --f", ["--fresh"]), ("ptab set --fresh 00 --plan ", IMAGES), ("ptab free --j", ["--json"]), ("ptab free --json ", IMAGES),
 )
 
@@ -61,7 +72,7 @@ def install(folder, words, wanted, **more):
     """What install.sh says; its files stand in `wanted`, which holds no others, each with its bytes and its mode."""
     done = subprocess.run([f"{TOP}/install.sh", *words], cwd=folder, capture_output=True, text=True, env={**os.environ, **more})
     same(f"install.sh {words}", (done.returncode, done.stderr), (0, ""))
-    same("a line a file", done.stdout.splitlines(), [f"installed {wanted}/{place}" for place in PLACES])
+    same("a line a file", sorted(done.stdout.splitlines()), sorted(f"installed {wanted}/{place}" for place in PLACES))
     same("the files", files(wanted), sorted(PLACES))
     for place, (source, mode) in PLACES.items():
         path = f"{wanted}/{place}"
@@ -80,6 +91,10 @@ def runs(folder, prefix):
     done = subprocess.run([f"{prefix}/bin/ptab-run", path, "true", "@"], capture_output=True, text=True,
                           env={key: value for key, value in os.environ.items() if key != "PTAB"})
     same("ptab-run beside it", (done.returncode, done.stdout, done.stderr), (0, "", "ptab-run: true changed nothing\n"))
+    where = {key: value for key, value in os.environ.items() if key != "PTAB"} | {"PATH": f"{prefix}/lib/ptab/safe:{os.environ['PATH']}"}
+    done = subprocess.run(["sgdisk", "-Z", path], capture_output=True, text=True, env=where)
+    same(f"sgdisk of the folder safe: {done.stdout}", (done.returncode, "the tool left no table" in done.stderr), (4, True))
+    same("nothing more is beside them", files(prefix), sorted(PLACES))
     if shutil.which("man"):
         where = {key: value for key, value in os.environ.items() if key != "MANPATH"}
         for name in ("ptab", "ptab-run"):
@@ -88,22 +103,31 @@ def runs(folder, prefix):
 
 
 def which_program(folder, ptab):
-    """Without PTAB packaging/build.py is asked, here one that writes down its words and tells this program's path; a fault
-    of it is kept."""
+    """Without PTAB packaging/build.py is asked, here one that writes down its words and tells this program's path; a fault of it is kept.
+    What packaging/release.sh links of that program is installed, and the program itself where it can't."""
     top = f"{folder}/top"
     os.makedirs(f"{top}/packaging")
     for name in ("install.sh", "man", "completion", "tools"):
         (shutil.copytree if os.path.isdir(f"{TOP}/{name}") else shutil.copy)(f"{TOP}/{name}", f"{top}/{name}")
     where = {key: value for key, value in os.environ.items() if key not in ("PTAB", "DESTDIR")} | {"LIBRARY": ""}
-    for does, status in ((f"print({ptab!r})", 0), ("sys.exit('not proved')", 1)):
+    linked = f"{folder}/linked"
+    with open(linked, "w", encoding="ascii") as it:
+        it.write("the linked program")
+    for name, does, links, status, wanted in (("linked", f"print({ptab!r})", f"echo {linked}", 0, linked),
+                                              ("not_linked", f"print({ptab!r})", "exit 1", 0, ptab),
+                                              ("not_proved", "sys.exit('not proved')", f"echo {linked}", 1, None)):
         with open(f"{top}/packaging/build.py", "w", encoding="utf-8") as it:
             it.write(f"import sys\nopen({folder + '/asked'!r}, 'a').write(' '.join(sys.argv[1:]) + '\\n')\n{does}\n")
-        done = subprocess.run([f"{top}/install.sh", f"{folder}/which{status}"], capture_output=True, text=True, env=where)
-        same("install.sh without PTAB", done.returncode, status)
-        same("whether something is installed", os.path.exists(f"{folder}/which{status}"), status == 0)
-    same("the program that it takes", filecmp.cmp(f"{folder}/which0/bin/ptab", ptab, shallow=False), True)
+        with open(f"{top}/packaging/release.sh", "w", encoding="utf-8") as it:
+            it.write(f"#!/bin/sh\n[ \"$PTAB\" = {shlex.quote(ptab)} ] || exit 1\n{links}\n")
+        os.chmod(f"{top}/packaging/release.sh", 0o755)
+        done = subprocess.run([f"{top}/install.sh", f"{folder}/{name}_under"], capture_output=True, text=True, env=where)
+        same(f"install.sh without PTAB, {name}: {done.stderr}", (done.returncode, bool(done.stderr)), (status, name != "linked"))
+        same("whether something is installed", os.path.exists(f"{folder}/{name}_under"), status == 0)
+        if wanted:
+            same("the program that it takes", filecmp.cmp(f"{folder}/{name}_under/bin/ptab", wanted, shallow=False), True)
     with open(f"{folder}/asked", encoding="utf-8") as it:
-        same("what is asked for", it.read().splitlines(), ["ptab", "ptab"])
+        same("what is asked for", it.read().splitlines(), ["ptab"] * 3)
 
 
 def library(folder, ptab, archive):
@@ -163,9 +187,10 @@ def refused(folder, ptab):
 def by_bash(prefix, line):
     # a colon or an equals sign is a word of its own there
     words = re.findall(r"[:=]|[^\s:=]+", line) + ([""] if line.endswith(" ") else [])
-    call = ('source "$1"; shift; COMP_WORDS=("$@"); COMP_CWORD=$(($# - 1)); _ptab; '
+    name = line.split(" ")[0] or "ptab"
+    call = (f'source "$1"; shift; COMP_WORDS=("$@"); COMP_CWORD=$(($# - 1)); _{name.replace("-", "_")}; '
             '[ ${#COMPREPLY[@]} = 0 ] || printf "%s\\n" "${COMPREPLY[@]}"')
-    return ["bash", "-c", call, "bash", f"{prefix}/share/bash-completion/completions/ptab", *words]
+    return ["bash", "-c", call, "bash", f"{prefix}/share/bash-completion/completions/{name}", *words]
 
 
 def by_zsh(prefix, line):
@@ -173,7 +198,8 @@ def by_zsh(prefix, line):
 
 
 def by_fish(prefix, line):
-    return ["fish", "--no-config", "-c", f"source {prefix}/share/fish/vendor_completions.d/ptab.fish; complete -C '{line}'"]
+    place = f"{prefix}/share/fish/vendor_completions.d"
+    return ["fish", "--no-config", "-c", f"for it in {place}/*; source $it; end; complete -C '{line}'"]
 
 
 def run_again(words, folder):
@@ -219,6 +245,9 @@ def completions(folder, prefix, ptab):
         for line, wanted in COMPLETIONS:
             found = completed(shell(prefix, line), line, f"{folder}/images")
             same(f"{shell.__name__} {line!r}", sorted(found), sorted(wanted))
+        usage = subprocess.run([f"{prefix}/bin/ptab-run", "--help"], capture_output=True, text=True).stdout
+        same(f"{shell.__name__}: the options of ptab-run", sorted(completed(shell(prefix, "ptab-run --"), "--", f"{folder}/images")),
+             sorted(["--help", "--version", *re.findall(r"^  (--[a-z-]+)", usage, re.MULTILINE)]))
         for name in ("", *COMMANDS):
             told = told_by(ptab, name)
             found = completed(shell(prefix, f"ptab {name} --".replace("  ", " ")), "--", f"{folder}/images")
@@ -230,9 +259,10 @@ def completions(folder, prefix, ptab):
                 for option, sentence in told.items():
                     shown = (f"{option}[{sentence}]", f"{option}=[{sentence}]", f"{option}}}'[{sentence}]", f"{option}:{sentence}")
                     same(f"the sentence that zsh has of {option}", any(it in by_hand for it in shown), True)
-    line = 'source "$1"; complete -p ptab'
-    done = subprocess.run(["bash", "-c", line, "bash", f"{prefix}/share/bash-completion/completions/ptab"], capture_output=True, text=True)
-    same("complete -p", done.stdout, "complete -F _ptab ptab\n")
+    for name, call in (("ptab", "_ptab"), ("ptab-run", "_ptab_run")):
+        line, path = f'source "$1"; complete -p {name}', f"{prefix}/share/bash-completion/completions/{name}"
+        same("complete -p", subprocess.run(["bash", "-c", line, "bash", path], capture_output=True, text=True).stdout,
+             f"complete -F {call} {name}\n")
     return len(shells)
 
 

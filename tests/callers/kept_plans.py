@@ -161,11 +161,17 @@ def jobs():
 
 
 def stops(rng, sectors, image, phases):
-    """How many stops of a plan were tried: at each the primary copy denotes the old table or the new one."""
+    """How many stops of a plan were tried: at each the primary copy denotes the old table or the new one. An MBR in place of a GPT has no
+    copy: it comes by one write of sector 0, alone in its phase, and what stands in sector 1 is as it was until then."""
     before, after, tried = bytearray(image), bytearray(image), 0
     for phase in phases:
         after = writes.written(after, phase, sectors)
     allowed = followed(image, sectors), followed(after, sectors)
+    if 0xEE not in after[450:510:16]:
+        turns = [k for k, phase in enumerate(phases) if any(lba == 0 for lba, _ in phase)]
+        same("an MBR in place of a GPT turns", [len(phases[k]) for k in turns], [1])
+        same("sector 1 before it", [lba for phase in phases[:turns[0]] for lba, _ in phase if lba == 1], [])
+        return 0
     if None in allowed:
         sys.exit("kept plans: the primary copy isn't whole before and after")
     for number, phase in enumerate(phases, 1):

@@ -1,7 +1,8 @@
 #!/usr/bin/env python3
-"""Builds the Debian package twice, in other folders, with other masks, time zones and languages, and compares the bytes; then looks at
-what it holds with `dpkg-deb -c` and `-I`, and runs the program and the recipes that it unpacks. The pages in it name no file of theirs that
-it lacks, and their links lead to what is there.
+"""Links the program that is packed twice, in other folders, with other masks, time zones and languages, and compares the bytes: it needs no
+library and no loader, runs in an empty root, and answers as the program with shared libraries does. Builds the Debian package of it twice
+in the same way; then looks at what it holds with `dpkg-deb -c` and `-I`, and runs the program and the recipes that it unpacks. The pages in
+it name no file of theirs that it lacks, and their links lead to what is there. A package of a program with shared libraries names these.
 
 With the archive of the library for callers in C it does the same with the package of that: it has each file that docs/c.md names, and an
 example that it unpacks is compiled and run over the library beside it.
@@ -12,6 +13,7 @@ import gzip
 import hashlib
 import os
 import re
+import shutil
 import subprocess
 import sys
 import tempfile
@@ -24,6 +26,7 @@ from compared import content, same
 from tools import must
 
 KIT = "kit-of-the-test logic 0123456789abcdef"
+LINKED = "glibc 2.36-9+deb12u14; a compiler; a linker"
 # a time to come: dpkg-deb itself turns later times into this one, and not earlier ones
 EPOCH = 4_000_000_000
 LINK = re.compile(r"\]\((?!https?:)([^)#]*)(?:#([^)]*))?\)")
@@ -44,15 +47,21 @@ def led_to(pages):
 # the pages and the recipes, each at its path in the repository
 PAGES = sorted(led_to(["docs/commands.md", "docs/other_tools.md", "docs/readers.md", "docs/sgdisk.md"]))
 RECIPES = tuple(f"examples/recipes/{name}" for name in sorted(os.listdir(f"{TOP}/examples/recipes")))
-FOLDERS = ("", "usr/", "usr/bin/", "usr/share/", "usr/share/bash-completion/", "usr/share/bash-completion/completions/", "usr/share/doc/",
+FOLDERS = ("", "usr/", "usr/bin/", "usr/lib/", "usr/lib/ptab/", "usr/lib/ptab/ptab_run/", "usr/lib/ptab/safe/",
+           "usr/share/", "usr/share/bash-completion/", "usr/share/bash-completion/completions/", "usr/share/doc/",
            "usr/share/doc/ptab/", "usr/share/doc/ptab/docs/", "usr/share/doc/ptab/examples/", "usr/share/doc/ptab/examples/recipes/",
            "usr/share/fish/", "usr/share/fish/vendor_completions.d/", "usr/share/man/", "usr/share/man/man8/",
            "usr/share/zsh/", "usr/share/zsh/vendor-completions/")
 # the completions for bash, zsh and fish
-COMPLETIONS = {"usr/share/bash-completion/completions/ptab": "ptab.bash", "usr/share/zsh/vendor-completions/_ptab": "ptab.zsh",
-               "usr/share/fish/vendor_completions.d/ptab.fish": "ptab.fish"}
+COMPLETIONS = {place: f"{name}.{shell}" for name in ("ptab", "ptab-run") for shell, place in (
+    ("bash", f"usr/share/bash-completion/completions/{name}"), ("zsh", f"usr/share/zsh/vendor-completions/_{name}"),
+    ("fish", f"usr/share/fish/vendor_completions.d/{name}.fish"))}
+# the modules of ptab-run, and the tools under their own names
+MODULES = {f"usr/lib/ptab/ptab_run/{name}": f"ptab_run/{name}" for name in os.listdir(f"{TOP}/tools/ptab_run")
+           if name.endswith(".py")}
+SAFE = [f"usr/lib/ptab/safe/{name}" for name in ("cfdisk", "cgpt", "fdisk", "gdisk", "growpart", "parted", "sfdisk", "sgdisk")]
 FILES = {"usr/bin/ptab": "-rwxr-xr-x", "usr/bin/ptab-run": "-rwxr-xr-x", "usr/share/man/man8/ptab-run.8.gz": "-rw-r--r--",
-         **{place: "-rw-r--r--" for place in COMPLETIONS},
+         **{place: "-rw-r--r--" for place in (*COMPLETIONS, *MODULES)}, **{place: "-rwxr-xr-x" for place in SAFE},
          **{f"usr/share/doc/ptab/{page}": "-rw-r--r--" for page in PAGES},
          **{f"usr/share/doc/ptab/{recipe}": "-rwxr-xr-x" for recipe in RECIPES},
          "usr/share/doc/ptab/BUILD": "-rw-r--r--", "usr/share/doc/ptab/changelog.gz": "-rw-r--r--",
@@ -65,7 +74,7 @@ FOLDERS_OF_DEV = ("bindings/", "examples/c/", "examples/python/", "examples/reci
 def build(ptab, out, cwd, mask=0o022, **more):
     """The package's path, as debian.sh tells it."""
     told = must(f"{TOP}/packaging/debian.sh", out, cwd=cwd, preexec_fn=lambda: os.umask(mask),
-                env={**os.environ, "PTAB": ptab, "KIT": KIT, "SOURCE_DATE_EPOCH": str(EPOCH), **more})
+                env={**os.environ, "PTAB": ptab, "KIT": KIT, "LINKED": LINKED, "SOURCE_DATE_EPOCH": str(EPOCH), **more})
     return os.path.join(cwd, told.strip())
 
 
@@ -80,18 +89,66 @@ def listed(deb):
     same("what the package holds", found, {**FILES, **{folder: "drwxr-xr-x" for folder in FOLDERS}})
 
 
+def linked(ptab, folder):
+    """The program that is packed, linked twice."""
+    paths = []
+    other = {"TZ": "Asia/Tokyo", "LC_ALL": "C.UTF-8", "HOME": folder}
+    for place, mask, more in (("linked", 0o022, {}), ("elsewhere/once more", 0o077, other)):
+        told = must(f"{TOP}/packaging/release.sh", f"{place}/ptab", cwd=folder, preexec_fn=lambda: os.umask(mask),
+                    env={**os.environ, "PTAB": ptab, **more})
+        paths.append(told.strip())
+        same("where it stands", paths[-1], os.path.realpath(f"{folder}/{place}/ptab"))
+        time.sleep(1.1)
+    same("the bytes of both programs", content(paths[0]) == content(paths[1]), True)
+    segments, sections = must("readelf", "-lW", paths[0]), must("readelf", "-dW", paths[0])
+    same("it wants no loader and no library", ("INTERP" in segments, "(NEEDED)" in sections), (False, False))
+    same("its place is any, and what is relocated is read-only", ("PIE" in sections, "GNU_RELRO" in segments), (True, True))
+    same("no stack is run", re.search(r"GNU_STACK .* (\S+) +0x", segments).group(1), "RW")
+    return paths[0]
+
+
+def runs_alone(release, folder):
+    """In a root that holds nothing else, where root may make one."""
+    root = f"{folder}/root"
+    os.mkdir(root)
+    shutil.copy(release, f"{root}/ptab")
+    if os.geteuid() == 0:
+        same("in an empty root", must("/ptab", "--version", preexec_fn=lambda: os.chroot(root)), must(release, "--version"))
+
+
+def answers_alike(ptab, release, folder):
+    """What both programs answer, and what they leave, on a GPT, an MBR and no table."""
+    image, fresh = f"{folder}/alike.img", ["--fresh", "0123456789abcdef" * 16]
+    makes = (["o", "a:1", "n:1:40:0:EF00", "c:1:Grüße"], [])
+    lines = (["show", image], ["show", "--json", image], ["show", "--human", image], ["verify", image], ["free", image], ["types"],
+             ["locate", image, "1", "0"], ["plan", image, *fresh, "c:1:x"], ["edit", image, *fresh, "o"], ["repair", image], ["help"],
+             ["show", f"{folder}/none"], ["show", folder], ["edit", image, "c:9:x"], ["show", "--device", image], ["nonsense"])
+    for words in makes:
+        for line in lines:
+            found = []
+            for program in (ptab, release):
+                with open(image, "wb") as it:
+                    it.truncate(1 << 20)
+                if words:
+                    must(ptab, "edit", image, *fresh, *words)
+                done = subprocess.run([program, *line], capture_output=True)
+                found.append((done.returncode, done.stdout, done.stderr, content(image)))
+            same(f"{line}", found[1], found[0])
+
+
 def told(deb, sum_of):
     """What it says of itself."""
     text = must("dpkg-deb", "-I", deb)
-    fields = {name: must("dpkg-deb", "-f", deb, name).strip() for name in
-              ("Package", "Version", "Architecture", "Depends", "Section", "Priority", "Maintainer", "Description", "Installed-Size")}
+    fields = {name: must("dpkg-deb", "-f", deb, name).strip() for name in (
+        "Package", "Version", "Architecture", "Depends", "Built-Using", "Section", "Priority", "Maintainer", "Description",
+        "Installed-Size")}
     head = must("git", "-C", TOP, "rev-parse", "HEAD").strip()
     same("its name", (fields["Package"], fields["Section"], fields["Priority"]), ("ptab", "admin", "optional"))
     same("its architecture", fields["Architecture"], must("dpkg", "--print-architecture").strip())
     version = re.escape(must(f"{TOP}/packaging/version.sh").strip())
     same("its version", bool(re.fullmatch(rf"{version}\+git\d{{14}}\.{head[:12]}(\.changed)?", fields["Version"])), True)
     same("its maintainer", bool(re.fullmatch(r"[^<>]+ <[^<>@ ]+@[^<>@ ]+>", fields["Maintainer"])), True)
-    same("what it needs", bool(re.fullmatch(r"libc6 \(>= 2\.\d+\)", fields["Depends"])), True)
+    same("what it needs, and what is inside it", (fields["Depends"], fields["Built-Using"]), ("", "glibc (= 2.36-9+deb12u14)"))
     lines = fields["Description"].splitlines()
     commit = head + ("-changed" if fields["Version"].endswith(".changed") else "")
     same("its description's end", [line.strip() for line in lines[-3:]], [
@@ -109,11 +166,13 @@ def unpacked(ptab, deb, folder, commit, fields, sum_of):
     for name in ("ptab", "ptab-run"):
         same("the man page", gzip.decompress(content(f"{tree}/usr/share/man/man8/{name}.8.gz")) == content(f"{TOP}/man/{name}.8"), True)
     same("ptab-run", content(f"{tree}/usr/bin/ptab-run") == content(f"{TOP}/tools/ptab-run"), True)
+    for place, source in {**MODULES, **{place: "safe/tool" for place in SAFE}}.items():
+        same(place, content(f"{tree}/{place}") == content(f"{TOP}/tools/{source}"), True)
     for place, source in COMPLETIONS.items():
         same(place, content(f"{tree}/{place}") == content(f"{TOP}/completion/{source}"), True)
     built = content(f"{tree}/usr/share/doc/ptab/BUILD").decode()
-    same("BUILD", built.splitlines()[:5],
-         ["program: /usr/bin/ptab", f"sha256: {sum_of}", f"commit: {commit}", f"kit: {KIT}", f"time: {EPOCH}"])
+    same("BUILD", built.splitlines()[:6],
+         ["program: /usr/bin/ptab", f"sha256: {sum_of}", f"commit: {commit}", f"kit: {KIT}", f"time: {EPOCH}", f"linked: {LINKED}"])
     changes = gzip.decompress(content(f"{tree}/usr/share/doc/ptab/changelog.gz")).decode().splitlines()
     same("the changelog's first line", changes[0], f"ptab ({fields['Version']}) unstable; urgency=medium")
     author = must("git", "-C", TOP, "log", "-1", "--format=%an <%ae>").strip()
@@ -214,10 +273,23 @@ def refused(ptab, folder):
     same("no package", os.path.exists(f"{folder}/no.deb"), False)
 
 
+def with_libraries(ptab, folder):
+    """A package of the program with shared libraries."""
+    deb = build(ptab, f"{folder}/shared.deb", folder)
+    needs = [must("dpkg-deb", "-f", deb, field).strip() for field in ("Depends", "Built-Using")]
+    same("what the program with shared libraries needs", (bool(re.fullmatch(r"libc6 \(>= 2\.\d+\)", needs[0])), needs[1]), (True, ""))
+    same("its BUILD", b"\nlinked: with shared libraries\n" in subprocess.run(
+        f"dpkg-deb --fsys-tarfile {deb} | tar -xO ./usr/share/doc/ptab/BUILD", shell=True, capture_output=True).stdout, True)
+
+
 def main():
-    ptab = os.path.abspath(sys.argv[1])
-    sum_of = hashlib.sha256(content(ptab)).hexdigest()
+    built = os.path.abspath(sys.argv[1])
     with tempfile.TemporaryDirectory() as folder:
+        ptab = linked(built, folder)
+        runs_alone(ptab, folder)
+        answers_alike(built, ptab, folder)
+        with_libraries(built, folder)
+        sum_of = hashlib.sha256(content(ptab)).hexdigest()
         os.mkdir(f"{folder}/out")
         other = f"{folder}/the same program"
         with open(other, "wb") as it:

@@ -3,9 +3,9 @@
 docs/table.md is run, a document's sessions in their order in one folder, and each command there answers what the document shows;
 docs/commands.md has one for each command, and says of each answer that isn't a success what to do. README's piece of a program stands in
 the example that it names, and examples/README.md lists each example. Each sentence that an error of the library prints stands in
-docs/commands.md. What docs/promises.md names is there, and so is each file and each crate that the pages on the repository name.
-tests/README.md has each script as its own text has it, and the gate runs it or the page says that it doesn't. No line of a source is
-longer than the prover takes.
+docs/commands.md. What docs/promises.md names is there, and it leaves out no public function with a contract (promised.py). Each file and
+each crate that the pages on the repository name is there. tests/README.md has each script as its own text has it, and the gate runs it or
+the page says that it doesn't. No line of a source is longer than the prover takes.
 
 usage: tests/docs/docs.py PTAB [DOCUMENT...]
 """
@@ -20,6 +20,7 @@ import tempfile
 TOP = os.path.join(os.path.dirname(os.path.abspath(__file__)), "..", "..")
 sys.path.insert(0, os.path.join(TOP, "tests", "shared"))
 from commands import COMMANDS
+from promised import promises, read, rows
 from sentences import ERRORS, is_told, sentences
 
 DOCUMENTS = ("README.md", "docs/commands.md", "docs/other_tools.md", "docs/table.md")
@@ -34,11 +35,6 @@ STANDS_FOR = re.compile(r"crates/NAME\b|/out/|\bCRATE/|^proofs/Json\.antt$|^src/
 WIDTH, SOURCES = 140, (".rt", ".antt", ".py", ".sh", ".c", ".h", ".rs")
 # the rows of docs/commands.md that need no advice
 SUCCESSES = ("a number", "0")
-
-
-def read(name):
-    with open(os.path.join(TOP, name), encoding="utf-8") as it:
-        return it.read()
 
 
 def blocks(text):
@@ -98,18 +94,6 @@ def pieces(name, text):
     return count
 
 
-def rows(text):
-    """(heading of the table, cells) of each row of a document's tables."""
-    head = None
-    for line in text.splitlines():
-        if not line.startswith("|"):
-            head = None
-        elif head is None:
-            head = [cell.strip() for cell in line.strip()[1:-1].split("|")]
-        elif line.strip("|-: "):
-            yield head, [cell.strip() for cell in line.strip()[1:-1].split("|")]
-
-
 def advice(text):
     """How many answers of docs/commands.md say what to do: all but the successes."""
     count = 0
@@ -137,50 +121,6 @@ def examples():
     if any("" in cells for _, cells in rows(text)):
         sys.exit("examples/README.md has an example without a line on it")
     return len(there)
-
-
-def names_in(cell):
-    """The names in a cell: `f`, `T::f` and `T::{f, g}` are f, f, and f and g."""
-    for found in re.findall(r"`([^`]*)`", cell):
-        for name in re.sub(r"^\w+::\{|\}$", "", found).split(","):
-            yield name.strip().split("::")[-1]
-
-
-def promised(crate, cells, is_law, files):
-    """How many names a row of docs/promises.md has; each stands in its file."""
-    call = cells[0]
-    clauses = " ".join(re.findall(r"\(([^)]*)\)", call)) if is_law else cells[1]
-    source = "".join(read(name) for name in files)
-    wanted = [(rf"\b(fn|struct|enum|type|trait|ghost) {name}\b", name) for name in names_in(re.sub(r"\([^)]*\)", "", call))]
-    wanted += [(r"ensures(?: \*)? \{" if name == "ensures" else rf"\b(ensures(?: \*)?|fn) {name}\b", name) for name in names_in(clauses)]
-    for pattern, name in wanted:
-        if not re.search(pattern, source):
-            sys.exit(f"docs/promises.md, {crate}: {name} of {call} isn't in {files}")
-    text, count = "", len(wanted)
-    for whole, name in re.findall(r"((?:crates/\w+/)?(?:specs/|proofs/)?(?:inner/)?\w+\.antt)|`([^`]*)`", cells[-1]):
-        path = whole or (name if name.endswith(".antt") else "")
-        if path:
-            text = read(path if path.startswith("crates/") else f"crates/{crate}/{path}" if "/" in path else f"crates/{crate}/specs/{path}")
-        elif text and not re.search(rf"\b{re.escape(name)}\b", text):
-            sys.exit(f"docs/promises.md, {crate}: {name} isn't in the definitions that it names for {call}")
-        count += 1
-    return count
-
-
-def promises():
-    """How many names of functions, clauses, files and definitions docs/promises.md has; each is there."""
-    crate, files, count = None, [], 0
-    for part in re.split(r"^(?=##)", read("docs/promises.md"), flags=re.MULTILINE):
-        if not part.startswith("### "):
-            continue
-        crate = re.match(r"### (\w+)", part).group(1)
-        for head, cells in rows(part):
-            is_law = head[0] == "Law"
-            named = cells[2] if is_law else cells[3]
-            if named:
-                files = [f"crates/{crate}/{name.strip()}" for name in named.split(",")]
-            count += promised(crate, cells, is_law, files)
-    return count
 
 
 def errors():
@@ -217,6 +157,18 @@ def places(name):
                 sys.exit(f"{name} names {path}, which isn't there: {line}")
             beside = os.path.dirname(there[0]) if there else beside
             count += 1
+    return count
+
+
+def headings():
+    """How many files of definitions the headings of docs/model.md name, behind their crate: each is there."""
+    count = 0
+    for line in re.findall(r"^## .*$", read("docs/model.md"), re.MULTILINE):
+        for crate, names in re.findall(r"`(pt_\w+)`: ([\w, ]+)", line):
+            for name in names.split(", "):
+                if not os.path.isfile(f"{TOP}/crates/{crate}/specs/{name}.antt"):
+                    sys.exit(f"docs/model.md names {name} of {crate}, which isn't there: {line}")
+                count += 1
     return count
 
 
@@ -261,7 +213,7 @@ def main():
         print(f"{name}'s sessions: {run(ptab, name, text)} passed, 0 failed; {pieces(name, text)} lines of a program are as in its file")
     each_command(read("docs/commands.md"))
     print(f"docs/commands.md: {advice(read('docs/commands.md'))} answers say what to do; examples/README.md lists {examples()} examples")
-    print(f"docs/promises.md: {promises()} names are there")
+    print(f"docs/promises.md: {promises()} names are there, no call left out; docs/model.md: {headings()} files of definitions are there")
     for name in NAMING:
         print(f"{name}: {places(name)} files and crates are there")
     print(f"tests/README.md: {scripts()} scripts are run as it says; {lines()} sources have no line of more than {WIDTH} characters")

@@ -40,6 +40,7 @@ SENTENCES = (("pt_gpt/src/error.rt", "CopyError", "show", "{}"), ("pt_mbr/src/ch
              ("pt_check/src/answer.rt", "Why", "check", "no {}"),
              ("pt_cases/src/targets/error.rt", "PlanError", "edit", "refused: plan {}"),
              ("pt_plan/src/repair_error.rt", "RepairError", "repair", None), ("pt_plan/src/like_error.rt", "LikeError", "adopt", None),
+             ("pt_carry/src/error.rt", "Unfit", "adopt", None), ("pt_carry/src/run_text.rt", "RunsError", "adopt", None),
              ("pt_apply/src/error.rt", "PlanTextError", "check", None))
 # of an error that the library wraps in another; the command prints it alone
 WRAPPED = (("RepairError", "there is no table"),)

@@ -1,8 +1,9 @@
 #!/usr/bin/env python3
 """Holds the sentences of bindings/c/ptab_disk_text.c against those that the library's errors print: each number of each error has the
 sentence of its `Display`, with the arguments in their places, and no number besides has one. Each stands in docs/commands.md, in the row
-with its number. The sentences that only the calls on open disks have stand in docs/c.md. A text is cut where there is no room, and the
-length that it gives is that of the whole text; so it is with a name, of which no character is cut in two.
+with its number. The sentences that only the calls on open disks have stand in docs/c.md. The keys of a table's text have one order
+wherever they stand. A text is cut where there is no room, and the length that it gives is that of the whole text; so it is with a name, of
+which no character is cut in two.
 
 usage: tests/docs/messages.py
 """
@@ -22,7 +23,7 @@ import sentences
 from compared import same
 from sentences import displayed, is_told, read
 
-WORD, TABLE, FINDING, EDIT, PLAN, CHECK, REPAIR, ADOPT, OTHER_TABLE, DISK, OTHER_DISK = 2, 3, 4, 5, 6, 7, 8, 9, 10, 64, 65
+WORD, TABLE, FINDING, EDIT, PLAN, CHECK, REPAIR, ADOPT, OTHER_TABLE, TEXT, DISK, OTHER_DISK = 2, 3, 4, 5, 6, 7, 8, 9, 10, 11, 64, 65
 ARGUMENT = 1
 # Of each error: its file and type; what its numbers are about; the numbers of variants that have no `number()`; variants that no reply
 # tells; and, where replies have less than it, what they have in the place of what it wraps.
@@ -134,7 +135,7 @@ def chains_and_copies(texts):
 def of_disks(texts):
     """The sentences that docs/c.md has."""
     told = read("docs/c.md")
-    cases = [(1, {"about": ARGUMENT, "number": number}) for number in range(1, 9)]
+    cases = [(1, {"about": ARGUMENT, "number": number}) for number in range(1, 10)]
     cases += [(5, {"about": about, "number": number, "a": 0}) for about in (DISK, OTHER_DISK) for number in range(1, 14)]
     cases += [(5, {"about": DISK, "number": 2, "a": kind}) for kind in range(7)] + [(status, {}) for status in range(-3, 7)]
     for status, fields in cases:
@@ -143,10 +144,31 @@ def of_disks(texts):
         same(f"docs/c.md has: {pattern}", f"`{pattern}`" in told or f"| {pattern} |" in told, True)
     for number in (14, 63, 65):
         same("no such number", texts.message(5, about=DISK, number=number), "the disk failed")
-    for about in (11, 63, 66, 2 ** 32 - 1):
+    for about in (12, 63, 66, 2 ** 32 - 1):
         same("about nothing", texts.message(3, about=about, number=1), "it is refused")
     same("errno", texts.message(5, about=DISK, number=3, sector=5, b=5), f"sector 5 can't be read: {os.strerror(5)}")
     same("no status", texts.message(99), "no status of this library")
+
+
+def keys(texts):
+    """The names at which a table's text has a fault, in one order in the library, its header, the bindings, and the sentences."""
+    fault = read("crates/pt_drafts/src/fault.rt")
+    found = re.findall(r'Key::(\w+) => "([^"]+)"', fault)
+    told = [re.sub(r"\s+", " ", it) for it in re.findall(r'"((?:object|the table).*)"', fault)]
+    same("the sentences of a fault", told, ["object {part} of `partitions` has a fault at `{}`", "the table's text has a fault at `{}`"])
+    same("their numbers", re.findall(r"Key::(\w+) => (\d+)", read("crates/pt_replay/src/refusals.rt")),
+         [(variant, str(number)) for number, (variant, _) in enumerate(found, 1)])
+    names = [name for _, name in found]
+    header = re.findall(r"PTAB_KEY_(\w+) = (\d+),? +/\* `([^`]+)`", read("include/ptab.h"))
+    same("the header's", header, [(name.upper().replace("-", "_"), str(number), name) for number, name in enumerate(names, 1)])
+    python = re.search(r"\nKEYS = \(([^)]*)\)", read("bindings/python/ptab.py")).group(1)
+    same("Python's", re.findall(r'"([^"]+)"', python), names)
+    same("Rust's", re.findall(r'\(Key::\w+, "([^"]+)"\)', read("bindings/rust/src/text.rs")), names)
+    for number, name in enumerate(names, 1):
+        same(f"key {number}", (texts.message(3, about=TEXT, number=number), texts.message(3, about=TEXT, number=number, a=7)),
+             (f"the table's text has a fault at `{name}`", f"object 7 of `partitions` has a fault at `{name}`"))
+    for number in (0, len(names) + 1):
+        same("no such key", texts.message(3, about=TEXT, number=number), "it is refused")
 
 
 def names(texts):
@@ -164,6 +186,7 @@ def main():
         errors(texts)
         chains_and_copies(texts)
         of_disks(texts)
+        keys(texts)
         names(texts)
     print(f"messages: {compared.count} passed, 0 failed")
 

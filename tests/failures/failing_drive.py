@@ -90,7 +90,8 @@ class PtabRun:
         return self.run(sys.executable, RUN, *place.options, place.path, self.it.ptab, "edit", "@", *words)
 
     def after_failure(self, place):
-        """What there is to do before the next look: nothing."""
+        """Does what there is to do before the next look: nothing. Gives whether that was done."""
+        return True
 
     def end(self):
         """Closes what it holds open."""
@@ -110,9 +111,11 @@ class Ptab(PtabRun):
 
     def after_failure(self, place):
         line = self.recipes[bool(place.options)]
-        must(*[re.sub("IMAGE|DEV", place.path, word) for word in shlex.split(line)])
+        if self.run(*[re.sub("IMAGE|DEV", place.path, word) for word in shlex.split(line)]):
+            return False
         shown = self.it.run(self.it.ptab, "show", *place.options, place.path)
         same(f"what ptab shows of {place.name} after `{line}`", shown, self.it.of(place.on_drive(), "show"))
+        return True
 
 
 def recipes():
@@ -143,8 +146,9 @@ class SameOpening(PtabRun):
         self.disk = None
 
     def edit(self, place, words):
-        self.disk = self.disk or lib.Disk(place.path, write=True, device=bool(place.options))
         try:
+            # where the journal couldn't be written, that may be found out only here
+            self.disk = self.disk or lib.Disk(place.path, write=True, device=bool(place.options))
             self.disk.edit(*words)
         except lib.Error as error:
             self.said = str(error)
@@ -197,10 +201,11 @@ class Edit:
 
     def again(self):
         """How the same edit ends, and what it says where it isn't done. That a journal can't be written may be found out only by it."""
-        status = self.way.edit(self.place, self.words)
-        if status != 0 and self.place.is_shut():
-            self.ready()
+        for _ in range(5):
             status = self.way.edit(self.place, self.words)
+            if status == 0 or not self.place.is_shut():
+                break
+            self.ready()
         return status, self.way.said if status else ""
 
     def ready(self):
@@ -209,11 +214,28 @@ class Edit:
             self.way.end()
             self.place.open_again()
 
+    def put(self):
+        """Gives the place the old table. That a journal can't be written may be found out only by it."""
+        for _ in range(5):
+            self.ready()
+            try:
+                return self.place.put(self.image)
+            except OSError as error:
+                found = error
+        raise found
+
+    def before_next_look(self):
+        """What the way has to be done there. That a journal can't be written may be found out only by it."""
+        for _ in range(5):
+            self.ready()
+            if self.way.after_failure(self.place):
+                return
+        sys.exit(f"{self.told}: before the next look: {self.way.said}")
+
     def once(self, fault):
         """How the edit ends, whether a call failed, and how many still are to."""
         place = self.place
-        self.ready()
-        place.put(self.image)
+        self.put()
         same(f"{self.told}: the medium before", place.on_medium() == self.image, True)
         # the kernel may flush by itself as soon as it is told
         before = place.drive.counts()[0]
@@ -230,7 +252,7 @@ class Edit:
         it.kept += content(place.path) != place.on_drive()
         if it.example:
             same(f"{self.told}: the library's verdict", it.verdict(place)[::2], it.of(place.on_drive(), "verify")[::2])
-        self.way.after_failure(place)
+        self.before_next_look()
 
     def is_done(self):
         """The medium has the new table, and is healthy."""

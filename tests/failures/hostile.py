@@ -197,7 +197,7 @@ def repair_fault(it, sectors, image, shown, verified):
 
 
 def own_text_fault(it, sectors, image, shown, verified):
-    """What is wrong with how the image takes its own text, or None; it is as it was then. An MBR takes none yet."""
+    """What is wrong with how the image takes its own text, or None; it is as it was then."""
     text = it.run("show", sectors, "--json")
     with open(f"{it.path}.json", "w", encoding="utf-8") as file:
         file.write(text[1])
@@ -209,8 +209,6 @@ def own_text_fault(it, sectors, image, shown, verified):
     allowed = [unsound] if number >= 7 else [done] if number == 0 else [done, unsound]
     if number == 1:
         allowed = [(3, "", "refused: table text\n")]
-    elif shown[1].startswith("mbr"):
-        allowed = [(3, "", "refused: table label\n")]
     if found not in allowed:
         return f"{found}"
     if after == image:
@@ -219,6 +217,19 @@ def own_text_fault(it, sectors, image, shown, verified):
     with open(it.path, "wb") as file:
         file.write(image)
     return None if found == done and number and again == (shown, (0, "yes\n", "")) else f"{found}: then {again}"
+
+
+def page_fault(it, sectors, shown):
+    """What is wrong with the page for people, or None: it has the partitions of `show`, the blocks of `free`, and no more."""
+    page = it.run("show", sectors, "--human")
+    if shown[0] != 0:
+        return None if page == shown else f"{page}"
+    head, bar, _, *rows = page[1].splitlines()
+    blocks = [] if (text := it.run("free", sectors)[1]) == "none\n" else [["-", *line.split()[:2]] for line in text.splitlines()]
+    wanted = [line.split(" ")[:3] for line in shown[1].splitlines()[1:]]
+    found = [line.split()[:3] for line in rows]
+    well = page[0] == 0 and page[2] == "" and len(bar) == 62 and head[:3].lower() == shown[1][:3]
+    return None if well and sorted(found) == sorted(wanted + blocks) else f"{page}"
 
 
 def batch(job):
@@ -240,6 +251,9 @@ def batch(job):
         with open(path, "rb") as file:
             if file.read() != image:
                 return f"{which}: the image was changed"
+        fault = page_fault(it, sectors, shown) if number % 4 == 1 else None
+        if fault:
+            return f"{which}: {shown}: show --human: {fault}"
         fault = own_text_fault(it, sectors, image, shown, verified) if number % 4 == 0 else None
         if fault:
             return f"{which}: {shown} {verified}: set: {fault}"

@@ -1,10 +1,11 @@
 #!/usr/bin/env python3
-"""Has each call of the built command on an image fail in turn, and each on a plan's file, on the other image of `adopt` or on a table's
-text. The answer is always `device`, of these two `other: device` and `table: device`, status 5, and no call follows but the closing. After
-a call that only reads no byte has changed; after a write, or a sync between them, the image has the plan's writes up to there and no
-other, and shows the old layout or the new one, as the phase says; a repair, or the same edit again, then ends in a healthy image. Calls
-that a signal interrupts and reads and writes of one byte change nothing. An output that takes nothing gives `device`, status 5, one that
-nobody reads status 5 in silence, an error stream that takes nothing status 5; what was done stands.
+"""Has each call of the built command on an image fail in turn, and each on a plan's file, on the other image of `adopt`, on a table's
+text, or on the runs of its data. The answer is always `device`, of these three `other: device`, `table: device` and `data: device`, status
+5, and no call follows but the closing. After a call that only reads no byte has changed; after a write, or a sync between them, the image
+has the plan's writes up to there and no other, and shows the old layout or the new one, as the phase says; a repair, or the same edit
+again, then ends in a healthy image. Calls that a signal interrupts and reads and writes of one byte change nothing. An output that takes
+nothing gives `device`, status 5, one that nobody reads status 5 in silence, an error stream that takes nothing status 5; what was done
+stands.
 
 usage: tests/failures/no_device.py PTAB [all]
 Without `all` every so many calls fail on damaged disks and those of other kinds, and the rarer ways of failing come at fewer calls.
@@ -25,10 +26,10 @@ from plans import phases_of
 ALL = 2 ** 32 - 1
 FAILS, DONE_AND_FAILS, ONE_BYTE, NOTHING = range(4)
 DEVICE = ("", "device\n", 5)
-OTHER_DEVICE, TABLE_DEVICE = ("", "other: device\n", 5), ("", "table: device\n", 5)
+OTHER_DEVICE, TABLE_DEVICE, DATA_DEVICE = ("", "other: device\n", 5), ("", "table: device\n", 5), ("", "data: device\n", 5)
 # what follows the image of a command: the file of the words' plan, or the image that the words make
 PLAN, OTHER, TABLE, AFTER, COPY = ("plan",), ("other",), ("table",), ("after",), ("--copy", "backup")
-JSON, JSON_AFTER = ("--json",), ("json", "after")
+JSON, JSON_AFTER, DATA = ("--json",), ("json", "after"), ("other", "data")
 # of the words whose plan an adoption writes
 KEEP = "--keep-primary"
 # What can come of a call, by its letter: how it fails, and errno. The others of `MORE` come at fewer calls, but with `all`. Of a plan's
@@ -50,6 +51,9 @@ class Run:
         self.size = ("--sector-size", str(sectors.size))
         self.old = self.shown()
         self.phases, self.switch = self.planned(writing) if writing else ([], 0)
+        if "--data" in line:
+            # the sectors of the data, and the first sync of the commit
+            self.phases, self.switch = [self.carried(), [], *self.phases], self.switch + 2
         self.writes = [write for phase in self.phases for write in phase]
         self.wanted = it.run(line)
         self.after = it.image()
@@ -68,6 +72,12 @@ class Run:
         self.it.write_plan(text)
         answer = self.it.run(("check", *self.size, self.it.path, self.it.plan))[0]
         return phases_of(text, self.sectors.size), int(answer.removeprefix("yes "))
+
+    def carried(self):
+        """The writes of the data, which the two images have alike."""
+        with open(self.it.data, encoding="ascii") as it:
+            found = [int(line.split(" ")[0]) for line in it]
+        return [(lba, self.before[lba * self.sectors.size:(lba + 1) * self.sectors.size]) for lba in found]
 
     def with_writes(self, count):
         """The image with that many of the plan's writes."""
@@ -124,7 +134,7 @@ def one_fault(run, on, log, first, last, how, error):
     letter, earlier = log[first - 1], log[:first - 1]
     told = f"{run.told}: call {first} of {len(log)} on {os.path.basename(on)} ({letter}), way {how}, errno {error}, last {last}"
     found, calls, left = run.failing(on, first, last, how, error)
-    wanted = {run.it.other: OTHER_DEVICE, run.it.table: TABLE_DEVICE}.get(on, DEVICE)
+    wanted = {run.it.other: OTHER_DEVICE, run.it.table: TABLE_DEVICE, run.it.data: DATA_DEVICE}.get(on, DEVICE)
     if found != wanted or calls[:first] != log[:first] or calls[first:].strip("c"):
         fail(told, (found, calls[first - 1:]), (wanted, f"{letter}, and closing"))
     written = earlier.count("w") + (letter == "w" and how == DONE_AND_FAILS)
@@ -159,7 +169,7 @@ def fail_each(run, on, step, whole):
     runs = 0
     for first in sorted({*range(1, len(log) + 1, step), *(k for k, letter in enumerate(log, 1) if letter in "solfc")}):
         letter, more = log[first - 1], whole or first % 6 == 0 or first == len(log)
-        for later, how, error in ways_of(letter, on not in (run.it.plan, run.it.table), more):
+        for later, how, error in ways_of(letter, on not in (run.it.plan, run.it.table, run.it.data), more):
             one_fault(run, on, log, first, ALL if later else first, how, error)
             runs += 1
         for how, error in HARMLESS[letter] if more else ():
@@ -180,6 +190,7 @@ def full_streams(ptab, disk):
         it.put(image)
         it.write_plan(it.run(("plan", it.path, *words))[0])
         it.write_other(("edit",), words)
+        it.write_data(())
         for command, (rest, writing) in lines(words).items():
             command = command.split()[0]
             if rest == TABLE and not has_table(it, ()):
@@ -219,6 +230,7 @@ def types(ptab):
 def lines(words):
     """Of each command what follows the image, and the words whose plan it writes."""
     return {"edit": (words, words), "apply": (PLAN, words), "repair": ((), ("a:1",)), "adopt": (OTHER, (KEEP, *words)),
+            "adopt data": (DATA, (KEEP, *words)),
             "set": (TABLE, (KEEP, *words)), "free json": (JSON, ()),
             "plan": (words, ()), "check": (PLAN, ()), "verify": ((), ()), "show": ((), ()), "show after": (AFTER, ()),
             "show copy": (COPY, ()), "show json": (JSON, ()), "show json after": (JSON_AFTER, ()),
@@ -226,7 +238,7 @@ def lines(words):
 
 
 def files(it):
-    return {PLAN: (it.plan,), OTHER: (it.other,), TABLE: (it.table,), AFTER: ("--after", it.plan),
+    return {PLAN: (it.plan,), OTHER: (it.other,), DATA: (it.other, "--data", it.data), TABLE: (it.table,), AFTER: ("--after", it.plan),
             JSON_AFTER: ("--json", "--after", it.plan)}
 
 
@@ -247,8 +259,10 @@ def on_disk(ptab, loaded, disk, command, step, whole):
         it.put(image)
         if rest in (PLAN, AFTER, JSON_AFTER):
             it.write_plan(it.run(("plan", *size, it.path, *words))[0])
-        if rest in (OTHER, TABLE):
+        if rest in (OTHER, TABLE, DATA):
             it.write_other(("edit", *size), words)
+        if rest == DATA and not it.write_data(size):
+            return []
         if rest == TABLE and not has_table(it, size):
             return []
         if command == "repair" and it.run(("show", *size, it.path))[2] != 0:

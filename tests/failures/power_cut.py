@@ -1,10 +1,11 @@
 #!/usr/bin/env python3
-"""Cuts the power in each phase of real edits, of every kind of table, and of tables that texts say (`set`). The writes and syncs of the
-built command on an image are taken down by strace; then, for each phase, images that hold the phases before and any choice of this phase's
-writes are shown: the old layout (or none, where there was none) before the phase that switches, the new one after it, one of the two in
-it; and a repair of them keeps what they show and leaves them healthy. Where the primary copy is kept, a plain reader of it finds the old
-table and then the new one, and turns with the same write. Repairs of every kind of damage are cut the same way: each such image has the
-layout that was there, and a repair of it ends as the whole one.
+"""Cuts the power in each phase of real edits, of every kind of table, of tables that texts say (`set`), of MBRs where none was
+(`adopt`), and of tables that come with data (`adopt --data`). The writes and syncs of the built command on an image are taken down by
+strace; then, for each phase, images that hold the phases before and any choice of this phase's writes are shown: the old layout (or none,
+where there was none) before the phase that switches, the new one after it, one of the two in it; and a repair of them keeps what they show
+and leaves them healthy. Where the primary copy is kept, a plain reader of it finds the old table and then the new one, and turns with the
+same write. Repairs of every kind of damage are cut the same way: each such image has the layout that was there, and a repair of it ends as
+the whole one.
 
 usage: tests/failures/power_cut.py PTAB
 """
@@ -76,7 +77,8 @@ def cut(ptab, folder, name, image, words, counts, switch, sectors=SMALL, command
         sys.exit(f"{name}: phases of {[len(phase) for phase in phases]} writes, not of {counts}")
     keeps = "--keep-primary" in words if command == "edit" else "--by-table" not in words
     old, new = shown(ptab, path, image, sectors), shown(ptab, path, after, sectors)
-    tables = Followed(image, after, sectors) if keeps else None
+    # beside a new MBR, headers of a GPT stay until they are zeroed
+    tables = Followed(image, after, sectors) if keeps and command != "adopt" else None
     if old == new or shown(ptab, path, after, sectors, "verify")[0] != "yes\n":
         sys.exit(f"{name}: nothing changed, or the image isn't healthy")
     rng = random.Random(1)
@@ -87,7 +89,7 @@ def cut(ptab, folder, name, image, words, counts, switch, sectors=SMALL, command
             found = shown(ptab, path, written(before, writes, sectors), sectors)
             if found not in allowed:
                 sys.exit(f"{name}: stopped in phase {number} by {[lba for lba, _ in writes]}: {found}")
-            if keeps:
+            if tables:
                 tables.hold(f"{name}: stopped in phase {number}", written(before, writes, sectors), number, switch)
             if not repaired(ptab, path, sectors, found, keeps):
                 sys.exit(f"{name}: stopped in phase {number} by {[lba for lba, _ in writes]}: not repaired")
@@ -368,6 +370,28 @@ def sets_of_slices():
     yield "one in place of logicals, with a slice", linked, table(part(300, 99, uuid=guid(7), type="A500"), **gpt), [67, 1], 2
 
 
+def sets_of_mbrs():
+    """MBRs in place of MBRs, of which the chains come, grow, shrink and go."""
+    one = SMALL.mbr(1024, [record(0x83, 1, 50)])
+    linked = chain((100, ebr(record(0x83, 1, 50), record(0x05, 200, 100))), (300, ebr(record(0x83, 1, 100))))
+    first, outer = part(1, 50), part(100, 800, type="5")
+    inner = part(101, 50, number=5), part(301, 100, number=6)
+    chs = {"start_chs": "000200", "end_chs": "0abcde", "bootable": True}
+    yield "a type and a mark", one, table(part(1, 50, type="c", **chs)), [1], 1
+    yield "another place", one, table(part(2, 900)), [1], 1
+    yield "no records", one, table(), [1], 1
+    yield "a slice", one, table(first, part(60, 100, type="a5")), [1, 1], 2
+    yield "an extended partition", one, table(first, outer), [1, 1], 2
+    yield "two logical ones", one, table(first, outer, *inner), [2, 1], 2
+    yield "a chain of three", one, table(first, outer, *inner, chain=[100, 250, 300]), [3, 1], 2
+    yield "a type of a logical one", linked, table(first, outer, inner[0], part(301, 100, number=6, type="82")), [1], 1
+    yield "one more", linked, table(first, outer, *inner, {"number": 7, "start": 500}), [1, 1], 2
+    yield "one between", linked, table(first, outer, inner[0], part(200, 9, number=6), part(301, 100, number=7)), [1, 1], 2
+    yield "the last one goes", linked, table(first, outer, inner[0], chain=[100, 300]), [1], 1
+    yield "the last one goes with its record", linked, table(first, outer, inner[0]), [1], 1
+    yield "the extended one goes", linked, table(first), [1], 1
+
+
 def sets_by_table():
     whole = one_partition()
     yield "a name", whole, table(part(2048, 2015, name="data")), [33, 1, 32, 1], 2
@@ -380,6 +404,17 @@ def sets_on_large_sectors():
     yield "a name", whole, table(part(6, 35, name="data")), [5, 1, 4, 1], 2
     yield "a grown disk", whole + LARGE.zeros(10), table(part(6, 35)), [5, 1, 1], 2
     yield "a new table", LARGE.zeros(64), table(part(6, 9, uuid=guid(7)), id=guid(9)), [4, 1, 5, 1], 2
+
+
+def new_mbrs(sectors, count, first):
+    """An MBR where none was, with a logical partition in an extended one from this sector on."""
+    chained = sectors.mbr(count, [record(0x83, first + 200, 20), record(0x05, first, 100)])
+    sectors.put(chained, first, ebr(record(0x83, 4, 20), record(0x05, 50, 10)))
+    sectors.put(chained, first + 50, ebr(record(0x07, 2, 8)))
+    gpt = sectors.gpt(count, {1: entry(first + 300, first + 320)})
+    yield "on a blank disk", sectors.zeros(count), chained, [2, 1], 2
+    yield "in place of a GPT", gpt, chained, [2, 1, 1, 1], 2
+    yield "without partitions, in place of a GPT", gpt, sectors.mbr(count, []), [1, 1, 1], 1
 
 
 def repair_cut(ptab, folder, damage, sectors):
@@ -458,6 +493,42 @@ def cut_sets(ptab, sectors, tables, *options):
     return checked
 
 
+def cut_new_mbrs(ptab, sectors, count, first):
+    """The same, of a table that is taken from another image."""
+    with room() as folder:
+        for name, image, other, counts, switch in new_mbrs(sectors, count, first):
+            with open(f"{folder}/other", "wb") as it:
+                it.write(other)
+            cut(ptab, folder, f"an MBR {name}", image, [f"{folder}/other"], counts, switch, sectors, "adopt")
+    return checked
+
+
+def with_data(sectors, count, first):
+    """(name, image, another one whose table is taken with the first ten sectors of its second partition, ..) of each kind of table."""
+    one, two = {1: entry(first, first + 49)}, {1: entry(first, first + 49), 2: entry(first + 60, first + 99, unique=guid(2))}
+    records = [record(0x83, first, 50), record(0x83, first + 60, 40)]
+    array = sectors.array
+    for name, image, other, counts, switch in (
+            ("a GPT", sectors.gpt(count, one), sectors.gpt(count, two), [10, array + 1, 1, array, 1], 3),
+            ("an MBR", sectors.mbr(count, records[:1]), sectors.mbr(count, records), [10, 1], 2),
+            ("a GPT on a blank disk", sectors.zeros(count), sectors.gpt(count, two), [10, array, 1, array + 1, 1], 3)):
+        for lba in range(first + 60, first + 70):
+            sectors.put(other, lba, bytes([lba % 251 + 1]) * sectors.size)
+        yield name, image, other, counts, switch
+
+
+def cut_data(ptab, sectors, count, first):
+    """The same, with data. (tests/rows/data.py looks where that is.)"""
+    with room() as folder:
+        with open(f"{folder}/runs", "w", encoding="ascii") as it:
+            it.write(f"{first + 60} {first + 64}\n{first + 65} {first + 69}\n")
+        for name, image, other, counts, switch in with_data(sectors, count, first):
+            with open(f"{folder}/other", "wb") as it:
+                it.write(other)
+            cut(ptab, folder, f"{name} with data", image, [f"{folder}/other", "--data", f"{folder}/runs"], counts, switch, sectors, "adopt")
+    return checked
+
+
 def cut_kept_repairs(ptab):
     with room() as folder:
         for name, image, counts in kept_repairs():
@@ -476,10 +547,13 @@ def main():
         tables = [(SMALL, table) for table in (on_gpt, on_slices_of_gpt, on_mbr, on_chains)] + [(LARGE, on_large_sectors)]
         done = [pool.submit(counted, cut_edits, ptab, sectors, table) for sectors, table in tables]
         done += [pool.submit(counted, cut_edits, ptab, *it, True) for it in ((SMALL, kept_on_gpt), (LARGE, kept_on_large_sectors))]
-        texts = (SMALL, sets), (SMALL, sets_of_slices), (LARGE, sets_on_large_sectors), (SMALL, sets_by_table, "--by-table")
+        texts = ((SMALL, sets), (SMALL, sets_of_slices), (SMALL, sets_of_mbrs), (LARGE, sets_on_large_sectors),
+                 (SMALL, sets_by_table, "--by-table"))
         done += [pool.submit(counted, cut_sets, ptab, *it) for it in texts]
         done += [pool.submit(counted, cut_repairs, ptab, part, 8) for part in range(8)]
         done += [pool.submit(counted, cut_kept_repairs, ptab)]
+        done += [pool.submit(counted, cut_new_mbrs, ptab, *it) for it in ((SMALL, 4096, 1024), (LARGE, 600, 100))]
+        done += [pool.submit(counted, cut_data, ptab, *it) for it in ((SMALL, 4096, 1024), (LARGE, 600, 100))]
         print(f"power cuts: {sum(it.result() for it in done)} passed, 0 failed")
 
 

@@ -5,6 +5,8 @@
 - signals while the tool works, while ptab reads and while it writes, and at any moment;
 - another file at IMAGE's path, or at the end of a link, while the tool works;
 - a full TMPDIR and a full folder of COPY; the mode of COPY; names that begin with `-`; streams that are closed; modules in PYTHONPATH;
+- a lock that a caller holds, the copy under the image's own path, disks of any length, what killed runs left (ptab_run_places.py);
+- --data: what is carried, limits, room, what a terminal shows, failures (ptab_run_data.py);
 - images that are cut off, file systems without a table, and what is said of them;
 - devices: `ptab` on a copy with sectors of 4096 bytes, a neighbour's bytes in the page of a table, sectors that can't be read, and a file
   that the kernel's cache has otherwise than the medium. This needs root and loop devices.
@@ -18,13 +20,16 @@ import signal
 import stat
 import subprocess
 import sys
+import tempfile
 import time
 
 TESTS = os.path.dirname(os.path.dirname(os.path.abspath(__file__)))
 sys.path[:0] = [f"{TESTS}/{it}" for it in ("shared", "peers")]
 import other_tools_runs
+import ptab_run_data
 import ptab_run_devices
 import ptab_run_hostile
+import ptab_run_places
 from images import SMALL, entry, record, room
 from plans import both_copies, phases_of, sectors_of, spelled
 from tools import must, run
@@ -58,6 +63,15 @@ class Tried(other_tools_runs.Runs):
         os.chmod(path, 0o755)
         return path
 
+    def each(self, parts):
+        """Each part in a folder of its own."""
+        for part in parts:
+            with tempfile.TemporaryDirectory(dir=self.folder) as folder:
+                os.chmod(folder, 0o755)
+                inner = type(self)(self.ptab, self.run_file, folder)
+                part(inner)
+                self.checked += inner.checked
+
     def names(self, path=None):
         return [line.split(" ")[-1] for line in self.show(path)[0].splitlines()[1:]]
 
@@ -80,8 +94,8 @@ def ended(number, fate):
 
 def signals(it):
     """By itself `sh` ends at a signal of its group, so what ignores it goes on."""
-    tool = it.script("tool", 'ptab edit "$1" c:1:new; eval kill $SIGNAL; exec sleep 20')
-    reads = it.script("reads", f'[ "$1" != show ] || {{ eval kill $SIGNAL; exec sleep 20; }}\nexec {it.ptab} "$@"')
+    tool = it.script("tool", 'ptab edit "$1" c:1:new; eval kill $SIGNAL; exec sleep 300')
+    reads = it.script("reads", f'[ "$1" != show ] || {{ eval kill $SIGNAL; exec sleep 300; }}\nexec {it.ptab} "$@"')
     writes = it.script("writes", f'case "$*" in *--no-lock*/proc/self/fd/*) eval kill $SIGNAL; sleep 0.1; esac\nexec {it.ptab} "$@"')
     for number in SIGNALS:
         it.gpt()
@@ -89,7 +103,7 @@ def signals(it):
         if number != signal.SIGINT:
             it.same(f"{number}: while the tool works", sent(it, number, [it.path, tool, "@"], None), ended(number, UNTOUCHED))
         it.same(f"{number}: while ptab reads", sent(it, number, it.rename(), reads), ended(number, UNTOUCHED))
-        it.same(f"{number}: what works is ended, and the image", (time.monotonic() - start < 15, it.image() == before), (True, True))
+        it.same(f"{number}: what works is ended, and the image", (time.monotonic() - start < 150, it.image() == before), (True, True))
         for is_group in (False, True):
             it.gpt()
             lines, status = ended(number, WRITTEN)
@@ -107,7 +121,7 @@ def signals(it):
     it.same("its table", it.names(), ["new"])
     copy = f"{it.folder}/copy"
     shown = it.script("shown", f'case "$*" in *show*) n=$(cat {it.folder}/n); echo $((n + 1)) >{it.folder}/n; '
-                      f'[ $n != 1 ] || {{ eval kill $SIGNAL; exec sleep 20; }}; esac\nexec {it.ptab} "$@"')
+                      f'[ $n != 1 ] || {{ eval kill $SIGNAL; exec sleep 300; }}; esac\nexec {it.ptab} "$@"')
     for number in SIGNALS:
         it.write(b"0", f"{it.folder}/n")
         it.same(f"{number}: --save", sent(it, number, ["--save", copy, it.path], shown), ended(number, UNTOUCHED))
@@ -136,8 +150,9 @@ def at_any_moment(it):
         lines = child.communicate(timeout=300)[1].splitlines()
         fate = UNTOUCHED if it.names() == ["old"] else WRITTEN
         answers = [(128 + number, f"ptab-run: ended by {number.name}: {it.path} {fate}"), (0, "ptab-run: done")]
-        # the script may not have begun, and ptab or the tool may have ended by it first
-        other = fate == UNTOUCHED and (child.returncode == -number or child.returncode in (125, 128 + number) and bool(lines))
+        # Python or the script may not have begun, and ptab or the tool may have ended by it first
+        ends = (125, 128 + number, *([1] if lines[-1:] == ["KeyboardInterrupt"] else []))
+        other = fate == UNTOUCHED and (child.returncode == -number or child.returncode in ends and bool(lines))
         found = (child.returncode, lines[-1] if lines else None)
         it.same(f"{number} at any moment: {found}, {fate}", found in answers or other, True)
         it.same("what is left", os.listdir(f"{it.folder}/left"), [])
@@ -288,12 +303,12 @@ def unread(it):
     entries = ("other tools may read its GPT, which has more or fewer than 128 entries, or an array in another place, as ISO images have: "
                "leave it to the tool that made it")
     chains = "other tools may read its table: see `no table` in ptab(8)"
-    foreign = "wipefs shows what it is; if nothing of it is wanted, sgdisk --zap-all clears it"
+    foreign = "wipefs without an option shows what it is, and ends nothing: a file system without a table, or a table of another kind"
     for name, advice in (("gpt, more entries", entries), ("blank, a filesystem", foreign), ("logicals, chained backwards", chains)):
         it.make(name)
         said_of(it, advice)
     it.write(SMALL.gpt(SECTORS, {1: entry(100, 200)}, revision=7))
-    said_of(it, "its GPT is damaged: testdisk may find its partitions")
+    said_of(it, "its GPT is damaged: testdisk may find its partitions, on a whole copy")
     it.write(SMALL.mbr(SECTORS, [record(5, 100, 50), record(5, 200, 50)]))
     said_of(it, chains)
     it.write(bytes(50 * 512) + b"x" * 512)
@@ -352,7 +367,8 @@ def main():
     for number in SIGNALS:
         signal.signal(number, signal.SIG_DFL)
     for part in (signals, nohup, at_any_moment, moved, full, copies, names, closed, isolated, cut_off, unread, file_systems, primary,
-                 ptab_run_hostile.all_of, ptab_run_devices.all_of):
+                 ptab_run_hostile.all_of, ptab_run_places.all_of, ptab_run_data.all_of,
+                 ptab_run_devices.all_of):
         with room() as folder:
             it = Tried(ptab, RUN, folder)
             on_devices = part(it)

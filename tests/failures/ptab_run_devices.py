@@ -2,13 +2,11 @@
 import fcntl
 import os
 import struct
-import subprocess
-import tempfile
 
 import devices
 from devices_runs import parts_of
 from images import LARGE, SMALL, entry, record
-from tools import must, run
+from tools import must
 
 SECTORS = 2048
 # a request of ioctl(2) on block devices, BLKBSZGET
@@ -150,10 +148,5 @@ def all_of(it):
     """Whether there are loop devices."""
     if not devices.has_loops(it.folder):
         return False
-    for part in (by_ptab, neighbours, bad_sectors, changed_below, stopped, links):
-        with tempfile.TemporaryDirectory(dir=it.folder) as folder:
-            # a folder of its own for each part
-            inner = type(it)(it.ptab, it.run_file, folder)
-            part(inner)
-            it.checked += inner.checked
+    it.each((by_ptab, neighbours, bad_sectors, changed_below, stopped, links))
     return True

@@ -10,6 +10,7 @@ usage: tests/peers/other_tools.py PTAB [all]
 Without `all` every other job that writes the copies of a GPT isn't stopped.
 """
 import ast
+import glob
 import os
 import random
 import re
@@ -221,7 +222,8 @@ def tried(ptab, bases, job, always):
 
 def main():
     ptab = os.path.abspath(sys.argv[1])
-    ast.parse(content(RUN), feature_version=(3, 8))
+    for path in (RUN, *glob.glob(f"{TOP}/tools/ptab_run/*.py")):
+        ast.parse(content(path), feature_version=(3, 8))
     jobs = list(other_tools_jobs.jobs())
     # more than there are processors, since sgdisk sleeps for a second where it has written
     with room() as bases, ProcessPoolExecutor(2 * len(os.sched_getaffinity(0))) as pool:

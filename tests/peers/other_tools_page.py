@@ -25,6 +25,12 @@ def read(name):
         return it.read()
 
 
+def script_text():
+    """All of ptab-run."""
+    names = sorted(os.listdir(f"{TOP}/tools/ptab_run"))
+    return read("tools/ptab-run") + "".join(read(f"tools/ptab_run/{name}") for name in names if name.endswith(".py"))
+
+
 def rows(text, title):
     """The cells of each row of the table under that title."""
     part = text.split(f"\n## {title}\n")[1].split("\n## ")[0]
@@ -122,7 +128,7 @@ class Page:
 
     def texts(self):
         """What standard error is said to print is printed by the script or by ptab."""
-        script = read("tools/ptab-run") + "refused: plan "
+        script = script_text() + "refused: plan "
         for title in ("What isn't taken over", "What is refused"):
             for cells in rows(self.docs, title):
                 text = cells[0].strip("`")
@@ -130,8 +136,8 @@ class Page:
 
     def man(self):
         page = re.sub(r"\\f[BIRP]", "", read("man/ptab-run.8")).replace(r"\-", "-")
-        script = read("tools/ptab-run")
-        for option in set(re.findall(r"--[a-z-]+", script.split('"""')[1])) - {"--zap-all"}:
+        script = script_text()
+        for option in set(re.findall(r"--[a-z-]+", read("tools/ptab_run/command_line.py").split('"""')[1])):
             self.same(f"man/ptab-run.8 has {option}", option in page, True)
         for status in re.search(r"^USAGE, .* = (.*)$", script, re.MULTILINE)[1].split(", "):
             self.same(f"man/ptab-run.8 has status {status}", f"\n.B {status}\n" in page, True)

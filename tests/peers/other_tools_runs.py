@@ -1,5 +1,6 @@
 """What tools/ptab-run does beside its jobs (other_tools.py): options, refusals and faults, what isn't taken over, plans, backups."""
-import fcntl
+import contextlib
+import json
 import os
 import re
 import shutil
@@ -9,7 +10,7 @@ import sys
 import time
 
 import other_tools_jobs
-from images import FREEBSD, SMALL, entry, label, record, room
+from images import FREEBSD, SMALL, as_layout, entry, label, record, room
 from tools import ENVIRONMENT, must
 
 LONG_AGO = 1_000_000_000
@@ -45,6 +46,17 @@ class Runs:
         done = subprocess.run([self.run_file, *words], capture_output=True, text=True, env=where, **more)
         self.same(f"{words}: what is left", os.listdir(f"{self.folder}/left"), [])
         return done.stdout, done.stderr.replace(self.folder, "FOLDER").replace("ptab-run: ", ""), done.returncode
+
+    @contextlib.contextmanager
+    def locked(self, path, how="-x"):
+        """Another program holds the lock, from which no run descends."""
+        other = subprocess.Popen(["flock", "--no-fork", how, path, "sh", "-c", "echo; exec sleep 1000"], stdout=subprocess.PIPE)
+        other.stdout.readline()
+        try:
+            yield
+        finally:
+            other.kill()
+            other.communicate()
 
     def ptab_says(self, *words):
         done = subprocess.run([self.ptab, *words], capture_output=True, text=True)
@@ -98,9 +110,8 @@ def faults(it):
         it.same(path, found, ("", f"{path.replace(it.folder, 'FOLDER')}: {why}\n", 125))
         it.same(f"--save {path}", it.do("--save", f"{it.folder}/copy", path), found)
     it.same("no copy", os.path.exists(f"{it.folder}/copy"), False)
-    for how in (fcntl.LOCK_SH, fcntl.LOCK_EX):
-        with open(it.path, "rb") as held:
-            fcntl.flock(held, how)
+    for how in ("-s", "-x"):
+        with it.locked(it.path, how):
             it.refused([it.path, "sgdisk", "-o", "@"], "FOLDER/disk.img isn't touched: another process has locked it")
     it.refused([it.path, "flock", "-n", it.path, "true", "@"], "flock ended with status 1: FOLDER/disk.img isn't touched", 1)
     it.refused([it.path, "sh", "-c", "exit 7", "sh", "@"], "sh ended with status 7: FOLDER/disk.img isn't touched", 7)
@@ -144,6 +155,7 @@ exec {it.ptab} "$@"
 def other_data(it):
     """What the tool writes beside tables, and what stays as it was beside them."""
     lossy = "FOLDER/disk.img isn't touched; --lossy goes on without that"
+    free = lossy.replace("; ", "; --data carries the data over, ")
     more = "dd if=/dev/urandom of=$1 bs=512 seek={} count=2 conv=notrunc status=none; sgdisk -t 1:ef02 $1 >$2"
     words = ["sh", "-c", more.format(3000), "sh", "@", f"{it.folder}/out"]
     it.make("gpt").refused([it.path, *words], f"not taken over: data in sectors 3000-3001\n{lossy}")
@@ -152,9 +164,9 @@ def other_data(it):
     it.same("the data", it.image()[100 * 512:16351 * 512] == data, True)
     it.same("the type", it.show()[0].split("\n")[1].split()[3], "21686148-6449-6e6f-744e-656564454649")
     it.refused([it.path, "sh", "-c", more.format(16349), "sh", "@", f"{it.folder}/out"],
-               f"not taken over: data in sectors 16349-16350\n{lossy}")
+               f"not taken over: data in sectors 16349-16350\n{free}")
     it.make("mbr, boot loader").refused([it.path, "dd", "if=/dev/zero", "of=@", "seek=20", "count=1", "conv=notrunc", "status=none"],
-                                        f"not taken over: data in sectors 20\n{lossy}")
+                                        f"not taken over: data in sectors 20\n{free}")
     it.make("gpt", f"{it.folder}/other")
     must("sgdisk", "-c", "1:other", f"{it.folder}/other")
     it.make("gpt")
@@ -271,18 +283,22 @@ def backups_of_mbr(it):
         it.same(f"adopt after {words}", (it.ptab_says("adopt", it.path, copy), it.show()), (("done\n", "", 0), shown))
     must("sfdisk", "-q", "--delete", it.path, "1", "6")
     it.same("two sectors", it.ptab_says("adopt", it.path, copy), ("", "refused: plan 1\n", 3))
-    with open(it.path, "wb") as disk:
-        disk.write(before)
-        disk.seek(0)
-        disk.write(bytes(512))
-    it.same("no table", it.ptab_says("adopt", it.path, copy), ("", "refused: plan 1\n", 3))
+    def end_table():
+        with open(it.path, "wb") as disk:
+            disk.write(bytes(512) + before[512:])
+
+    end_table()
+    it.same("no table", (it.ptab_says("adopt", it.path, copy), it.show()), (("done\n", "", 0), shown))
+    end_table()
     it.done("--lossy", it.path, "cp", copy, "@", errors=it.do("--plan", "--lossy", it.path, "cp", copy, "@")[1] + "done\n")
-    it.same("cp", it.image() == before, True)
+    chain = json.loads(it.ptab_says("show", "--json", it.path)[0])["partitiontable"]["chain"]
+    it.same("cp", (it.show(), it.image()[440:446] == before[440:446]), (shown, True))
+    it.same("cp, to the byte", as_layout(it.image(), chain) == as_layout(before, chain), True)
     must("sgdisk", "-o", it.make("blank").path)
     it.done("--lossy", it.path, "cp", copy, "@", errors=it.do("--plan", "--lossy", it.path, "cp", copy, "@")[1] + "done\n")
     it.same("over an empty GPT", it.show(), shown)
-    it.make("gpt").refused(["--lossy", it.path, "cp", copy, "@"], "FOLDER/disk.img isn't touched: refused: plan 1 (the table can't turn in "
-                           "one write: do it in steps, each a run); by a plan with the tool's own bytes: no 7 4096")
+    it.make("gpt").refused(["--lossy", it.path, "cp", copy, "@"], "FOLDER/disk.img isn't touched: refused: plan 2 (a sector that a "
+                           "partition owns now would have to be written: delete in one run, and make in the next)")
 
 
 def found_beside(it):
@@ -291,6 +307,7 @@ def found_beside(it):
     for name in ("beside", "links", "path"):
         os.mkdir(f"{it.folder}/{name}")
     shutil.copy(it.run_file, f"{it.folder}/beside/ptab-run")
+    shutil.copytree(f"{os.path.dirname(it.run_file)}/ptab_run", f"{it.folder}/beside/ptab_run")
     os.symlink(f"{it.folder}/beside/ptab-run", f"{it.folder}/links/ptab-run")
     for folder, path in (("beside", ""), ("links", ""), ("path", f"{it.folder}/path:")):
         os.symlink(it.ptab, f"{it.folder}/{'path' if path else 'beside'}/ptab")

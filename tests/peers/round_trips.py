@@ -1,12 +1,13 @@
 #!/usr/bin/env python3
-"""Takes tables as text there and back: sixty images of GPTs that sgdisk, sfdisk and ptab made, with 1 to 128 entries, names of all kinds,
-attributes, slices with labels, disks that have grown, and lost copies.
+"""Takes tables as text there and back: sixty images of GPTs that sgdisk, sfdisk, parted, cgpt and ptab made, with 1 to 128 entries, names
+of all kinds, attributes, slices with labels, disks that have grown, and lost copies.
 
   - The image takes its own text: no byte of a healthy one changes, and another one is healthy then, with the same table.
   - The text is edited by jq: names, types, sizes, numbers; partitions go, and come without a start. The image takes it, and then it shows
     what the text says, with what it leaves out as a plain reading of the text has it (shared/made.py). sgdisk and sfdisk agree.
   - What `sfdisk --json` prints of the image is taken too, and gives the same table.
-  - A blank image of the same size takes the text, and shows the same.
+  - A blank image of the same size takes the text, and shows the same. Of a healthy image it has the same sectors then, but for what stands
+    before the records of sector 0.
 
 usage: tests/peers/round_trips.py PTAB [COUNT]
 """
@@ -90,6 +91,30 @@ def by_sfdisk(ptab, folder, rng):
     must("sfdisk", "-q", new(folder), input="\n".join(lines) + "\n")
 
 
+def by_parted(ptab, folder, rng):
+    words, at = ["mklabel", "gpt"], 1
+    for number in range(1, rng.randrange(2, 7)):
+        size = rng.randrange(1, 5)
+        words += ["mkpart", f"part{number}", rng.choice(("ext4", "fat32", "linux-swap")), f"{at}MiB", f"{at + size}MiB"]
+        words += rng.choice(([], ["set", str(number), rng.choice(("esp", "bios_grub", "lvm", "legacy_boot", "raid")), "on"]))
+        at += size
+    must("parted", "-s", new(folder), *words)
+
+
+def by_cgpt(ptab, folder, rng):
+    """With attributes of its own, and mostly no protective MBR."""
+    path, at = new(folder), 64
+    must("cgpt", "create", path)
+    for number in sorted(rng.sample(range(1, 129), rng.randrange(1, 8))):
+        size = rng.choice((1, 100, 8192))
+        words = ["-i", str(number), "-b", str(at), "-s", str(size), "-l", f"L{number}"]
+        words += ["-t", rng.choice(("data", "efi"))]
+        must("cgpt", "add", *words, *rng.choice(([], ["-S", "1", "-T", "5", "-P", "9"])), path)
+        at += size
+    if rng.randrange(3) == 0:
+        must("cgpt", "boot", "-p", path)
+
+
 def by_text(ptab, folder, rng):
     """1, 4, 40 and 128 entries, by ptab."""
     count = rng.choice((1, 4, 40, 128))
@@ -139,7 +164,7 @@ def lost(ptab, folder, rng):
     put(path, image)
 
 
-MAKERS = (by_sgdisk, by_sfdisk, by_text, with_slices, by_hand, grown, lost, by_sgdisk, by_sfdisk, by_text)
+MAKERS = (by_sgdisk, by_sfdisk, by_text, with_slices, by_hand, grown, lost, by_parted, by_cgpt, by_text)
 
 
 class Trip:
@@ -228,6 +253,8 @@ class Trip:
         put(self.path, bytes(len(self.image)))
         same(f"{self.what}: on a blank image", self.run("set", self.path, "-", text=self.text), ("done\n", "", 0))
         self.shows("on a blank image", json.loads(self.text))
+        if self.is_healthy:
+            same(f"{self.what}: a blank image's sectors", content(self.path)[446:] == self.image[446:], True)
 
 
 def job(ptab, seed):

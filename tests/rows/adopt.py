@@ -13,7 +13,7 @@ import compared
 import images
 from command import Command
 from compared import same
-from images import FREEBSD, LARGE, SMALL, array_of, entry, guid, label, record
+from images import FREEBSD, LARGE, SMALL, array_of, ebr, entry, guid, label, record
 from plans import phases_of, sectors_of, spelled
 
 COUNT = 300
@@ -100,7 +100,7 @@ def either_way(make):
 
 def refuses(make):
     """What isn't taken, and what is told then; the image stays byte for byte."""
-    gpt, mbr = SMALL.gpt(COUNT, {1: entry(40, 200)}), SMALL.mbr(COUNT, [record(0x83, 40, 100)])
+    gpt = SMALL.gpt(COUNT, {1: entry(40, 200)})
     broken = bytearray(gpt)
     for lba in (1, COUNT - 1):
         SMALL.put(broken, lba, bytes(512))
@@ -108,7 +108,8 @@ def refuses(make):
     for what, image, other, answer in (
             ("a longer one", gpt, SMALL.gpt(COUNT + 1, {}), ("", "refused: other size\n", 3)),
             ("no table", gpt, broken, ("", "other: no table: copies 1 1\n", 4)),
-            ("an MBR", gpt, mbr, ("", "refused: plan 1\n", 3)),
+            ("an MBR whose chain begins in an old partition", gpt, chained(SMALL, 60), ("", "refused: plan 2\n", 3)),
+            ("an MBR whose chain begins in an old copy", gpt, chained(SMALL, 10), ("", "refused: plan 1\n", 3)),
             ("a table that isn't sound", gpt, overlapping, ("", "refused: plan 4\n", 3))):
         pair = make(SMALL, image, other)
         for words in ((), ("--plan",), ("--no-lock",)):
@@ -134,6 +135,47 @@ def mbrs(make):
     same("the MBR", pair.image.run("show"), (f"mbr {COUNT}\n1 40 139 83 00\n2 150 199 07 80\n", "", 0))
 
 
+def chained(sectors, first):
+    """An MBR with an extended partition from this sector on, and a logical one in it."""
+    image = sectors.mbr(COUNT, [record(0x83, first + 100, 20), record(0x05, first, 50)])
+    sectors.put(image, first, ebr(record(0x83, 4, 20)))
+    return image
+
+
+def new_mbrs(make):
+    """An MBR where the image has a GPT, or no table: its chain first, then sector 0, then zeros where headers of the GPT stood."""
+    for sectors in (SMALL, LARGE):
+        gpt = sectors.gpt(COUNT, {1: entry(250, 260)})
+        blank, boot = sectors.zeros(COUNT), bytearray(gpt)
+        boot[:446] = bytes(range(1, 224)) * 2
+        plain, chain = sectors.mbr(COUNT, [record(0x83, 100, 20)]), chained(sectors, 80)
+        last = sectors.mbr(COUNT, [record(0x83, 100, COUNT - 100)])
+        first = sectors.mbr(COUNT, [record(0x83, 1, 20)])
+        for what, image, other, phases in (
+                ("on a blank image", blank, plain, "0"), ("with a chain on a blank image", blank, chain, "80 | 0"),
+                ("without partitions on a blank image", blank, sectors.mbr(COUNT, []), "0"),
+                ("in place of a GPT", gpt, plain, f"0 | 1 | {COUNT - 1}"),
+                ("with a chain in place of a GPT", gpt, chain, f"80 | 0 | 1 | {COUNT - 1}"),
+                ("with boot code in place of a GPT", boot, plain, f"0 | 1 | {COUNT - 1}"),
+                ("up to the last sector", sectors.gpt(COUNT, {}), last, "0 | 1"), ("from sector 1 on", gpt, first, f"0 | {COUNT - 1}")):
+            told = f"an MBR {what}, {sectors.size}"
+            pair = make(sectors, image, other)
+            plan = pair.adopt("--plan")
+            same(f"{told}: the phases", spelled(sectors_of(phases_of(plan[0], sectors.size))), phases)
+            same(f"{told}: by the table", pair.adopt("--by-table"), ("", "refused: plan 1\n", 3))
+            same(f"{told}: nothing is written", pair.image.image(), bytes(image))
+            same(told, pair.adopt(), ("done\n", "", 0))
+            same(f"{told}: as it is shown", pair.image.run("show"), pair.other.run("show"))
+            same(f"{told}: healthy", pair.image.run("verify"), ("yes\n", "", 0))
+            left = pair.image.image()
+            same(f"{told}: the boot code", left[:446], bytes(image[:446]))
+            for lba in (1, COUNT - 1):
+                if f" {lba} " in f" {phases} ":
+                    same(f"{told}: sector {lba}", left[lba * sectors.size:(lba + 1) * sectors.size], bytes(sectors.size))
+            same(f"{told}: once more", (pair.adopt(), pair.image.image()), (("done\n", "", 0), left))
+            same(f"{told}: by its plan", applied(make(sectors, image, other), plan[0]), left)
+
+
 def main():
     if len(sys.argv) != 2:
         sys.exit("usage: tests/rows/adopt.py PTAB")
@@ -143,6 +185,7 @@ def main():
         takes(make)
         refuses(make)
         mbrs(make)
+        new_mbrs(make)
         either_way(make)
     print(f"adopt: {compared.count} passed, 0 failed")
 

@@ -1,10 +1,10 @@
 #!/usr/bin/env python3
-"""Compares the sectors that each command asks the image for with those that docs/model.md says it reads: `show`, `locate` and `free`
-what recovery reads, `show --copy` what decides what that copy gives, `verify` what decides the verdict, `check`, `apply` and
-`show --after` what a check of that plan reads, each exactly, and `show --json` what `show` reads; `plan`, `edit` and `repair` no others
-than what decides the verdict, what a plan reads and what its check reads. So no bad sector elsewhere fails a call. An edit, a plan, a
-check and a repair read no sector twice. All this on tables of every kind and both sector sizes, with edits of several kinds that are done
-and that are refused. A rename in a GPT reads at most 140 sectors and writes 67.
+"""Compares the sectors that each command asks the image for with those that docs/model.md says it reads: `show`, `locate` and `free` what
+recovery reads, `show --copy` what decides what that copy gives, `verify` what decides the verdict, `check`, `apply` and `show --after`
+what a check of that plan reads, each exactly, and `show --json` and `--human` what `show` reads; `plan`, `edit` and `repair` no others
+than what decides the verdict, what a plan reads and what its check reads. So no bad sector elsewhere fails a call. A verdict, an edit, a
+plan, a check and a repair read no sector twice. All this on tables of every kind and both sector sizes, with edits of several kinds that
+are done and that are refused. A rename in a GPT reads at most 140 sectors and writes 67.
 
 usage: tests/rows/reads.py PTAB
 """
@@ -118,11 +118,20 @@ class Counted:
         done, read, wrote = self.run(what, sectors, image, command, words)
         if done.returncode != status:
             fail(what, command, *words, f"ended with {done.returncode}", done.stderr)
+        self.never_twice((what, command, *words), read)
+        return done.stdout, set(read), wrote
+
+    def never_twice(self, told, read):
         twice = {lba: times for lba, times in read.items() if times > 1}
         if twice:
-            fail(what, command, *words, "sectors read more than once:", twice)
+            fail(*told, "sectors read more than once:", twice)
         self.passed += 1
-        return done.stdout, set(read), wrote
+
+    def verdict(self, what, sectors, image, decides):
+        """A verdict reads the sectors that decide it, and none twice."""
+        _, read, _ = self.run(what, sectors, image, "verify", ())
+        self.never_twice((what, "verify"), read)
+        self.compare((what, "verify"), set(read), decides, decides)
 
     def file(self, plan):
         path = os.path.join(self.folder, "plan")
@@ -136,14 +145,14 @@ def look(it, what, sectors, image):
     disk = Disk(sectors, image)
     it.reads(what, sectors, image, "show", (), disk.reads, disk.reads)
     it.reads(what, sectors, image, "show", ("--json",), disk.reads, disk.reads)
+    it.reads(what, sectors, image, "show", ("--human",), disk.reads, disk.reads)
     it.reads(what, sectors, image, "locate", ("1", "0"), disk.reads, disk.reads)
     it.reads(what, sectors, image, "free", (), disk.reads, disk.reads)
     for side in ("primary", "backup"):
         alone = disk.side_reads(side == "primary")
         it.reads(what, sectors, image, "show", ("--copy", side), alone, alone)
         it.reads(what, sectors, image, "show", ("--json", "--copy", side), alone, alone)
-    # a verdict reads label places twice
-    it.reads(what, sectors, image, "verify", (), disk.verdict_reads(), disk.verdict_reads())
+    it.verdict(what, sectors, image, disk.verdict_reads())
 
 
 def mend(it, what, sectors, image):

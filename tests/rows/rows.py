@@ -13,6 +13,7 @@ import rows_edit
 import rows_free
 import rows_gpt
 import rows_help
+import rows_human
 import rows_json
 import rows_kept
 import rows_labels
@@ -23,14 +24,16 @@ import rows_records
 import rows_repair
 import rows_set
 import rows_set_disks
+import rows_set_mbr
 import rows_slices
 import rows_switches
 import rows_turns
 import rows_words
 from eight import run_all
 
-PARTS = (rows_gpt, rows_copies, rows_mbr, rows_labels, rows_edit, rows_place, rows_free, rows_json, rows_plan, rows_turns,
-         rows_records, rows_slices, rows_switches, rows_words, rows_help, rows_repair, rows_kept, rows_set, rows_set_disks)
+PARTS = (rows_gpt, rows_copies, rows_mbr, rows_labels, rows_edit, rows_place, rows_free, rows_json, rows_human, rows_plan, rows_turns,
+         rows_records, rows_slices, rows_switches, rows_words, rows_help, rows_repair, rows_kept, rows_set, rows_set_disks,
+         rows_set_mbr)
 
 
 def main():

@@ -25,8 +25,10 @@ TYPES = (("esp", "EF00", "c12a7328-f81f-11d2-ba4b-00a0c93ec93b"), ("bios-boot", 
          ("microsoft-ldm-data", "4200", "af9b60a0-1431-4f62-bc68-3311714a69ad"), ("chromeos-kernel", "7F00",
          "fe3a2a5d-4f32-41a7-b725-accc3285a309"), ("apple-apfs", "AF0A", "7c3457ef-0000-11aa-aa11-00306543ecac"),
          ("efi", None, "c12a7328-f81f-11d2-ba4b-00a0c93ec93b"), ("linux", None, "0fc63daf-8483-4772-8e79-3d69d8477de4"))
-# names of an MBR's types that are none of a GPT's
-OF_RECORDS = ("fat32", "ntfs", "extended", "hidden-ntfs", "hurd", "solaris", "minix")
+# names of an MBR's types; some of them are a GPT's too
+OF_RECORDS = {"fat12": 0x01, "extended": 0x05, "ntfs": 0x07, "exfat": 0x07, "fat32": 0x0B, "fat32-lba": 0x0C, "extended-lba": 0x0F,
+              "hidden-ntfs": 0x17, "hurd": 0x63, "minix": 0x81, "swap": 0x82, "linux-swap": 0x82, "linux": 0x83, "lvm": 0x8E,
+              "freebsd": 0xA5, "openbsd": 0xA6, "solaris": 0xBF, "esp": 0xEF, "efi": 0xEF, "uefi": 0xEF, "raid": 0xFD}
 
 
 class Fault(Exception):
@@ -135,15 +137,16 @@ def entry_type(text):
 
 
 def record_type(text):
+    """The type of a record that a text names, or None."""
     if re.fullmatch("[0-9A-Fa-f]{1,2}", text):
-        return int(text, 16) not in (0, 0xEE)
-    return text in OF_RECORDS
+        return None if int(text, 16) in (0, 0xEE) else int(text, 16)
+    return OF_RECORDS.get(text)
 
 
 def kind_of(text):
-    """(its type on a GPT or None,), where the text names one on a GPT or an MBR."""
-    kind = entry_type(text)
-    return (kind,) if kind or record_type(text) else None
+    """(its type on a GPT or None, and on an MBR or None), where the text names one on either."""
+    kinds = entry_type(text), record_type(text)
+    return None if kinds == (None, None) else kinds
 
 
 def size_of(value):

@@ -29,6 +29,7 @@ class Failing:
         self.plan = f"{folder}/plan"
         self.other = f"{folder}/other"
         self.table = f"{folder}/table"
+        self.data = f"{folder}/data"
         self.held = None
         self.env = {"LD_PRELOAD": loaded, "FAULTS": f"{folder}/faults"}
         self.streams = [os.open(f"{folder}/{name}", os.O_RDWR | os.O_CREAT | os.O_TRUNC, 0o600) for name in ("out", "err")]
@@ -75,6 +76,14 @@ class Failing:
             fail("show --json", (errors, status), ("", 0))
         with open(self.table, "w", encoding="utf-8") as it:
             it.write(text)
+
+    def write_data(self, size):
+        """The runs of data that may come from the other image: two sectors of its first free block, or none."""
+        first = self.run(("free", *size, self.other))[0].split("\n")[0].split(" ")
+        found = range(int(first[0]), int(first[1]) + 1)[:2] if len(first) == 2 else ()
+        with open(self.data, "w", encoding="ascii") as it:
+            it.write("".join(f"{lba} {lba}\n" for lba in found))
+        return found
 
     def run(self, words, numbers=None, env=None):
         """(output, errors, status) of the words; with numbers, the library is loaded and has them. A signal's status is negative."""

@@ -41,6 +41,17 @@ def ebr(logical=bytes(16), link=bytes(16), rest=bytes(32), mark=b"\x55\xaa"):
     return bytes(446) + logical + link + rest + mark
 
 
+def as_layout(image, chain):
+    """An image without what no layout has of sector 0 and of these extended boot records, which is what stands before the records. CHS
+    numbers, which one has but each tool counts in its own way, are left out too."""
+    found = bytearray(image)
+    for at in (lba * 512 for lba in (0, *chain)):
+        found[at:at + 446] = bytes(446)
+        for record_at in range(at + 446, at + 510, 16):
+            found[record_at + 1:record_at + 4] = found[record_at + 5:record_at + 8] = bytes(3)
+    return bytes(found)
+
+
 def label(length, entries, raw_offset=0, count=8, checksum=None, sector_size=512, magic=MAGIC, magic2=MAGIC):
     """The 276 bytes of a label; entries {index: (size, offset, fstype)} beside the raw one."""
     all_entries = {2: (length, raw_offset, 0), **entries}

@@ -5,7 +5,10 @@ import uuid
 from dataclasses import dataclass, field
 
 import images
+import made_mbr
 from drafts import TYPES, WORDS, Fault, draft_of, entry_type
+from made_mbr import is_mbr
+from places import blocks, empty_label, label_in, last_by
 from reader import followed
 
 FREEBSD = images.FREEBSD.lower()
@@ -46,24 +49,6 @@ def trimmed(units):
 # ## What stands on a disk.
 
 
-def label_in(sector, first, length):
-    """The label of a slice that its second sector holds, as in a text, or None."""
-    magic, kind, subtype, type_name, pack_name, size = struct.unpack_from("<IHH16s16sI", sector)
-    magic2, _, count, bbsize, sbsize = struct.unpack_from("<IHHII", sector, 132)
-    total = 0
-    for (word,) in struct.iter_unpack("<H", sector[:148 + 16 * min(count, 8)]):
-        total ^= word
-    if (magic, magic2, size, total) != (images.MAGIC, images.MAGIC, 512, 0) or not 3 <= count <= 8:
-        return None
-    entries = [dict(zip(("size", "offset", "fragment", "fstype", "frag", "cpg"), struct.unpack_from("<IIIBBH", sector, 148 + 16 * k)))
-               for k in range(count)]
-    if entries[2]["size"] != length or entries[2]["offset"] not in (0, first):
-        return None
-    return {"kind": kind, "subtype": subtype, "type_name": type_name.hex(), "pack_name": pack_name.hex(),
-            "geometry": list(struct.unpack_from("<4I", sector, 44)), "unit": struct.unpack_from("<I", sector, 60)[0],
-            "kept": bytes(sector[64:132]).hex(), "bbsize": bbsize, "sbsize": sbsize, "entries": entries + [None] * (8 - count)}
-
-
 def gpt_on(image, sectors):
     """The GPT that an image holds: that of the primary copy, or else that of the backup, or None."""
     found = followed(image, sectors) or followed(image, sectors, "backup")
@@ -84,11 +69,6 @@ def gpt_on(image, sectors):
     return table
 
 
-def is_mbr(image):
-    kinds = [image[446 + 16 * k + 4] for k in range(4)]
-    return image[510:512] == b"\x55\xaa" and all(image[446 + 16 * k] in (0, 0x80) for k in range(4)) and 0xEE not in kinds
-
-
 def is_slice(size, entry):
     return size == 512 and entry.kind == FREEBSD
 
@@ -98,25 +78,6 @@ def is_slice(size, entry):
 
 def edge(size):
     return 16384 // size + 2
-
-
-def last_by(first, extent, size):
-    """The last sector, or None."""
-    how, amount = extent
-    if how == "last":
-        return amount
-    count = amount // size if how == "bytes" else amount
-    return first + count - 1 if count and first + count <= 2 ** 64 else None
-
-
-def blocks(low, high, runs):
-    """The blocks of free sectors."""
-    at, found = low, []
-    for first, last in sorted((first, last) for first, last in runs if first <= last and last >= low and first <= high):
-        if first > at:
-            found.append((at, first - 1))
-        at = max(at, last + 1)
-    return found + ([(at, high)] if at <= high else [])
 
 
 def placed(table, runs, start, extent, size):
@@ -137,12 +98,6 @@ def placed(table, runs, start, extent, size):
     how, amount = extent
     end = amount if how == "last" else first + (amount // size if how == "bytes" else amount) - 1
     return (first, end) if first <= end <= last else None
-
-
-def empty_label(length):
-    blank = {"size": 0, "offset": 0, "fragment": 0, "fstype": 0, "frag": 0, "cpg": 0}
-    return {"kind": 0, "subtype": 0, "type_name": "00" * 16, "pack_name": "00" * 16, "geometry": [0] * 4, "unit": length,
-            "kept": "00" * 68, "bbsize": 8192, "sbsize": 0, "entries": [blank, blank, {**blank, "size": length}] + [blank] * 5}
 
 
 class Making:
@@ -316,7 +271,7 @@ def by_labels(image, old, table, is_healthy):
 
 
 def wanted_of(content, fresh, image, sectors, is_healthy=True):
-    """The table that a text makes of an image. Or the first fault."""
+    """The table that a text makes of an image, or the first fault; of an MBR without a look at whether there is a plan for it."""
     mbr, old = is_mbr(image), None if is_mbr(image) else gpt_on(image, sectors)
     count = sectors.count(image)
     draft = draft_of(content)
@@ -325,7 +280,7 @@ def wanted_of(content, fresh, image, sectors, is_healthy=True):
     if draft["sectorsize"] not in (None, sectors.size):
         raise Fault("sectorsize")
     if draft["label"] == "dos" or draft["label"] is None and mbr:
-        raise Fault("label")
+        return made_mbr.Making(sectors.size, count, made_mbr.mbr_on(image, sectors) if mbr else None, draft).table
     table = Making(sectors.size, count, old, fresh, draft).table
     if not is_sound(table):
         raise Fault("", line="refused: plan 4")
@@ -357,6 +312,8 @@ def words_of(attributes):
 
 def shown(table, device):
     """The object of JSON that is printed, with `device` as the image's name."""
+    if isinstance(table, made_mbr.Mbr):
+        return made_mbr.shown(table, device)
     parts = []
     for number, it in sorted(table.entries.items()):
         has_size = it.first <= it.last and it.last - it.first + 1 < 2 ** 64

@@ -3,7 +3,7 @@ call reads what it needs anew."""
 import ctypes as c
 
 DONE, NO, USAGE, REFUSED, NO_TABLE, DEVICE, MEMORY, WANT, ROOM, WANT_OTHER = 0, 1, 2, 3, 4, 5, 6, -1, -2, -3
-VERSION, MOST_MEMBERS, MOST_WRITES, MOST_WANTED = 2, 1056, 264, 132
+VERSION, MOST_MEMBERS, MOST_WRITES, MOST_WANTED, MOST_BLOCKS, MOST_TEXT = 2, 1056, 264, 132, 400, 1 << 17
 OF_ITSELF, KEPT, BY_TABLE = 0, 1, 2  # what becomes of the primary copy
 
 
@@ -31,6 +31,10 @@ class Write(c.Structure):
     _fields_ = [("sector", c.c_uint64), ("phase", c.c_uint64)]
 
 
+class Block(c.Structure):
+    _fields_ = [("first", c.c_uint64), ("last", c.c_uint64), ("inside", c.c_uint64)]
+
+
 class Failed(Exception):
     """A call that gave no answer: its status, and what its reply is about."""
 
@@ -52,6 +56,9 @@ class Ptab:
         self.lib.ptab_repair.argtypes = [p, p, size, p, size, p]
         self.lib.ptab_adopt_plan.argtypes = [p, p, p, size, p, size, p]
         self.lib.ptab_check.argtypes = [p, p, size, p, size, p]
+        self.lib.ptab_table_text.argtypes = [p, p, size, p, size, p]
+        self.lib.ptab_free.argtypes = [p, p, size, p]
+        self.lib.ptab_set_plan.argtypes = [p, p, size, p, size, p, size, p, size, p]
         self.lib.ptab_guid_text.argtypes = [p, p]
         self.lib.ptab_guid_text.restype = None
         self.lib.ptab_type_code.argtypes = [p]
@@ -112,6 +119,23 @@ class Disk:
             raise Failed(status, reply)
         return table, rows[:reply.count]
 
+    def text(self, device):
+        """The table as text, of a device of this name."""
+        name, text = device.encode(), c.create_string_buffer(MOST_TEXT)
+        status, reply = self._ask(
+            lambda view, reply: self.lib.ptab_table_text(view, name, len(name), text, len(text), reply))
+        if status != DONE:
+            raise Failed(status, reply)
+        return text.raw[:reply.count].decode()
+
+    def free(self):
+        """The blocks of free sectors, as (first, last, inside)."""
+        rows = (Block * MOST_BLOCKS)()
+        status, reply = self._ask(lambda view, reply: self.lib.ptab_free(view, rows, len(rows), reply))
+        if status != DONE:
+            raise Failed(status, reply)
+        return [(row.first, row.last, row.inside) for row in rows[:reply.count]]
+
     def verify(self):
         """(DONE or NO, the reply)"""
         status, reply = self._ask(self.lib.ptab_verify)
@@ -151,6 +175,11 @@ class Disk:
         """The plan that makes the disk healthy with the layout that another `Disk` denotes."""
         other.read_ends()
         return self._phases(lambda view, *rest: self.lib.ptab_adopt_plan(view, c.byref(other.view), *rest), other)
+
+    def set(self, text, drawn=b""):
+        """The plan by which the disk takes the table that the text says, which is bytes."""
+        return self._phases(
+            lambda view, *rest: self.lib.ptab_set_plan(view, text or b"\0", len(text), drawn, len(drawn), *rest))
 
     def check(self, phases):
         """(DONE or NO, the reply) for a plan from elsewhere."""

@@ -11,6 +11,8 @@ ERRORS = (("pt_gpt/src/error.rt", "CopyError", "| {} |"), ("pt_mbr/src/chain.rt"
           ("pt_check/src/answer.rt", "Why", "| `no {}"), ("pt_cases/src/targets/error.rt", "PlanError", "| `refused: plan {}`"),
           ("pt_plan/src/error.rt", "CommitError", None), ("pt_plan/src/repair_error.rt", "RepairError", None),
           ("pt_plan/src/like_error.rt", "LikeError", None),
+          ("pt_carry/src/error.rt", "Unfit", None), ("pt_carry/src/error.rt", "CarryError", None),
+          ("pt_carry/src/run_text.rt", "RunsError", None),
           ("pt_apply/src/error.rt", "PlanTextError", None))
 # said of the device, of memory and of what is wrapped, of which the documents speak in other words
 OTHERWISE = ("can't be read", "out of memory", "the plan is refused")

@@ -12,9 +12,19 @@ def traced(command, path, sectors, calls=CALLS, log=None, **more):
     """How a command ends, and the writes to an image, as (sector, bytes), before each sync of it, by whichever process of the command,
     and by whatever path that opened it."""
     log = log or f"{path}.log"
-    done = subprocess.run(["strace", "-f", "-P", path, "-e", f"trace={','.join(calls)}", "-xx", "-s", str(2 * sectors.size), "-o", log,
-                           *command], stdout=subprocess.PIPE, stderr=subprocess.PIPE, text=True, **more)
-    phases, writes, is_open = [], [], False
+    words = [*tracing(path, sectors, calls, log), *command]
+    done = subprocess.run(words, stdout=subprocess.PIPE, stderr=subprocess.PIPE, text=True, **more)
+    return done, phases_in(log, sectors, f"{command}: {done.stderr}")
+
+
+def tracing(path, sectors, calls, log):
+    """The words before a command that is traced."""
+    return ["strace", "-f", "-P", path, "-e", f"trace={','.join(calls)}", "-xx", "-s", str(2 * sectors.size), "-o", log]
+
+
+def phases_in(log, sectors, what, is_open=False):
+    """The writes that were taken down, before each sync; of an image that the command has to open for them, or that it is given open."""
+    phases, writes = [], []
     with open(log, encoding="ascii") as it:
         for line in it:
             found = CALL.search(line.strip())
@@ -30,10 +40,10 @@ def traced(command, path, sectors, calls=CALLS, log=None, **more):
                 phases.append(writes)
                 writes = []
             elif is_open:
-                sys.exit(f"{command}: {call}")
+                sys.exit(f"{what}: {call}")
     if writes or not is_open:
-        sys.exit(f"{command}: writes after the last sync, or an image that isn't opened for them: {done.stderr}")
-    return done, phases
+        sys.exit(f"{what}: writes after the last sync, or an image that isn't opened for them")
+    return phases
 
 
 def recorded(ptab, path, command, words, sectors):
