@@ -8,7 +8,11 @@ usage: tests/side_by_side.py [--beside FILE] [--turn N] <LIST
   --beside FILE   while `rt ci` runs, which prints into this file: each script, once the crates are proved that its words name, as pt_c or
                   as the file of a built one
   --turn N        which turn it is; without it all scripts are run
+
+Where that may be done, each script has a mount namespace of its own. Some scripts take copies of theirs. If it were that of all scripts, a
+file system that another one has unmounted would live on in such a copy, with the errors that it met.
 """
+import functools
 import os
 import re
 import shlex
@@ -24,12 +28,23 @@ from beside import SECONDS, proved_by  # noqa: E402
 from doubles import KEEPS_MEMORY  # noqa: E402
 
 ROOT = os.path.dirname(HERE)
+OWN_MOUNTS = ("unshare", "--mount", "--propagation", "private", "--")
+
+
+@functools.cache
+def own_mounts():
+    """The words that give a program its own mount namespace, or none where that may not be done."""
+    try:
+        may = subprocess.run([*OWN_MOUNTS, "true"], check=False, capture_output=True).returncode == 0
+    except OSError:
+        may = False
+    return OWN_MOUNTS if may else ()
 
 
 def run(words):
     """Its exit status, and what it said."""
     with tempfile.TemporaryFile("w+", errors="replace") as said:
-        command = [sys.executable, f"{HERE}/{words[0]}", *words[1:]]
+        command = [*own_mounts(), sys.executable, f"{HERE}/{words[0]}", *words[1:]]
         # the scripts, and what they run, read whole images again and again
         how = {"stdin": subprocess.DEVNULL, "stdout": said, "stderr": subprocess.STDOUT, "env": {**os.environ, **KEEPS_MEMORY}}
         status = subprocess.run(command, check=False, **how).returncode

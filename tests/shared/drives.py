@@ -188,6 +188,10 @@ class File:
 
     def open_again(self):
         must("umount", self.place)
+        # in another mount namespace it may still be there, with its errors; so it would be if it were mounted again
+        last = time.monotonic() + SECONDS
+        while os.path.exists(f"/sys/fs/ext4/{os.path.basename(self.loop.path)}") and time.monotonic() < last:
+            time.sleep(0.01)
         self.mount()
 
 
