@@ -1,0 +1,5 @@
+pub mod Beginning
+pub mod Reading
+pub mod Splits
+pub mod Standings
+pub mod Writes
