@@ -1,6 +1,7 @@
 pub mod Accepted
 pub mod Adding
 pub mod Answering
+pub mod ByCopies
 pub mod Clear
 pub mod Exits
 pub mod Finishing

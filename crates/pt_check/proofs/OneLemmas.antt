@@ -1,5 +1,5 @@
 -- Lemmas on one answer at most is right.
-use Rattle.std.proofs.Common.{◌≡◌, ◌∙◌, ◌⊎◌, inl, inr, ⊎_elim, ℕ, ◌+◌, List, slice_get, refl, sym, ap, subst, arith, Option, Some}
+use Rattle.std.proofs.Common.{◌≡◌, ◌∙◌, inl, inr, ⊎_elim, ℕ, ◌+◌, List, slice_get, refl, sym, ap, subst, arith, Option, Some}
 use Rattle.std.proofs.lemmas.Bool.{cases_order}
 use Rattle.pt_sector.specs.Sectors.{Sectors, Writes, after}
 use Rattle.pt_sector.specs.declared.address.Lba.{Lba}

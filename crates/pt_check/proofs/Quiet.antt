@@ -8,7 +8,7 @@ use Rattle.pt_sector.proofs.Written.{stopped_written}
 use Rattle.pt_sector.specs.inner.ForFields.{length-written}
 use Rattle.pt_apply.specs.Plans.{NoneIs}
 use Rattle.pt_recover.specs.Denotes.{Denotes, Reads, SameMeaning, LeavesReads}
-use Rattle.pt_recover.proofs.Terms.{stop_keeps_lem}
+use Rattle.pt_recover.proofs.Terms.{stop_keeps_lem, denotes_one_lem}
 use Rattle.pt_recover.proofs.SameReads.{alike_meaning}
 use Rattle.pt_recover.proofs.Roles.{alike_equal}
 use Rattle.pt_recover.specs.Alike.{IsAlike, ReadsAlike}
@@ -85,6 +85,13 @@ kept_one b S d (x ∷ y ∷ ws) k w le at is s v puts in_s = absurd (omega (arit
 pub kept_none : (b : ℕ) (S : ℕ → Type 0) (d : Sectors) (ws : Writes) → NoneIs (λ (w : ℕ × List ℕ). S w.0) ws → KeepsRead b S d ws
 kept_none b S d ws none s v puts in_s = absurd (none_puts (λ (w : ℕ × List ℕ). S w.0) ws none s v puts in_s)
 
+calm_untouched : (b : ℕ) (phases : List Writes) (d : Sectors) (i : ℕ) (runs : List TracedRun)
+    → Reading (Reads b) (disk_after phases d i) runs → TouchedIs (IsIn runs) (phase_at phases i) None
+    → IsCalm (Denotes b) (Reads b) phases d i
+calm_untouched b phases d i runs reading touched = ⊎_elim (λ few. inl few)
+    (λ nothing. inr (λ s v puts read. none_puts (λ (w : ℕ × List ℕ). IsIn runs w.0) (phase_at phases i) nothing s v puts
+    ((reading.same s).1 read))) touched
+
 module _ (b : ℕ) (phases : List Writes) (d : Sectors) (i : ℕ) (below : i < length phases) (runs : List TracedRun)
     (reading : Reading (Reads b) (disk_after phases d i) runs)
     (keeps : KeepsRead b (IsIn runs) (disk_after phases d i) (phase_at phases i)) where
@@ -103,11 +110,6 @@ module _ (b : ℕ) (phases : List Writes) (d : Sectors) (i : ℕ) (below : i < l
   kept_meaning : SameMeaning b (disk_after phases d (i + 1)) (disk_after phases d i)
   kept_meaning = alike_meaning b (disk_after phases d (i + 1)) (disk_after phases d i) kept_alike
 
-  kept_calm : TouchedIs (IsIn runs) (phase_at phases i) None → IsCalm (Denotes b) (Reads b) phases d i
-  kept_calm touched = ⊎_elim (λ few. inl few)
-      (λ nothing. inr (λ s v puts read. none_puts (λ (w : ℕ × List ℕ). IsIn runs w.0) (phase_at phases i) nothing s v puts
-      ((reading.same s).1 read))) touched
-
   pub reading_kept : Reading (Reads b) (disk_after phases d (i + 1)) runs
   reading_kept = record {
     same = λ s. (λ is. (kept_meaning.reads s).1 ((reading.same s).0 is), λ is. (reading.same s).1 ((kept_meaning.reads s).0 is));
@@ -116,7 +118,8 @@ module _ (b : ℕ) (phases : List Writes) (d : Sectors) (i : ℕ) (below : i < l
   pub passed_kept : TouchedIs (IsIn runs) (phase_at phases i) None → (old new : Option _) (switch : Option ℕ)
       → Course (Denotes b) (Reads b) phases d old new i switch → Course (Denotes b) (Reads b) phases d old new (i + 1) switch
   passed_kept touched old new switch course =
-      course_quiet (Denotes b) (Reads b) phases d old new i switch course (kept_calm touched) (λ o is. (kept_meaning.denotes o).1 is)
+      course_quiet (Denotes b) (Reads b) phases d old new i switch course (calm_untouched b phases d i runs reading touched)
+      (λ o is. (kept_meaning.denotes o).1 is)
 
 -- what the disk denotes after so many phases
 pub course_now : {L : Type 0} (denotes : Sectors → Option L → Type 0) (reads : Sectors → ℕ → Type 0) (phases : List Writes) (d : Sectors)
@@ -126,3 +129,14 @@ course_now denotes reads phases d old new i switch course = now switch course.la
   now : (s : Option ℕ) → LayoutsAre denotes reads phases d old new i s → denotes (disk_after phases d i) (current_of old new s)
   now None olds = olds i (omega arith)
   now (Some s) (pos, most, differ, olds, news) = news i most (omega arith)
+
+-- a phase that leaves what the disk denoted
+pub passed_still : (b : ℕ) (phases : List Writes) (d : Sectors) (i : ℕ) (runs : List TracedRun)
+    → Reading (Reads b) (disk_after phases d i) runs → TouchedIs (IsIn runs) (phase_at phases i) None → (old new : Option _)
+    (switch : Option ℕ) → Course (Denotes b) (Reads b) phases d old new i switch
+    → Denotes b (disk_after phases d (i + 1)) (current_of old new switch) → Course (Denotes b) (Reads b) phases d old new (i + 1) switch
+passed_still b phases d i runs reading touched old new switch course is =
+    let now = course_now (Denotes b) (Reads b) phases d old new i switch course in
+    course_quiet (Denotes b) (Reads b) phases d old new i switch course (calm_untouched b phases d i runs reading touched)
+    (λ o was. let same = denotes_one_lem b (disk_after phases d i) (current_of old new switch) o now was in
+    subst (Denotes b (disk_after phases d (i + 1))) same is)

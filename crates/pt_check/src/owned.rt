@@ -6,6 +6,7 @@ ghost use Rattle.pt_members.specs.inner.Members.{IsLeafWith, HasLeafAt, HasLeaf,
 ghost use Rattle.pt_members.specs.Tables.{Owns, OwnedOf};
 ghost use Rattle.pt_recover.specs.Spans.{IsIn, Adds};
 
+use crate::same::same_layout;
 use crate::trial::Layouts;
 use pt_bsd::Label;
 use pt_mbr::FIRST_LOGICAL;
@@ -121,6 +122,9 @@ pub(crate) fn owned_in_either<const B: usize>(
 {
     let mut owned = Trace::new(alloc);
     add_owned::<B>(&mut owned, &layouts.old)?;
+    if same_layout(&layouts.old, &layouts.new) {
+        return Ok(owned);
+    }
     add_owned::<B>(&mut owned, &layouts.new)?;
     Ok(owned)
 }

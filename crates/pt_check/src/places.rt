@@ -53,7 +53,7 @@ fn is_fixed<const B: usize>(layout: &Option<Layout>, lba: Lba) -> bool
 }
 
 /// Whether a sector is a table of a GPT on a disk of so many sectors, but for label places.
-fn is_at_end<const B: usize>(sectors: u64, lba: Lba) -> bool
+pub(crate) fn is_at_end<const B: usize>(sectors: u64, lba: Lba) -> bool
     requires { IsSectorSize B }
     ensures { IsTrue result ↔ IsGptTable B sectors lba.0 }
 {

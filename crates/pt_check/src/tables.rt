@@ -7,6 +7,7 @@ ghost use Rattle.pt_members.specs.Members.{IsPlace};
 ghost use Rattle.pt_members.specs.Tables.{IsTable, IsBodyTable, IsGptTable, TableOf};
 ghost use Rattle.pt_recover.specs.Spans.{IsIn, Adds};
 
+use crate::same::same_layout;
 use crate::trial::Layouts;
 use pt_gpt::first_usable;
 use pt_mbr::Ebr;
@@ -56,7 +57,7 @@ fn add_body<const B: usize>(tables: &mut Trace, sectors: u64, body: &Body) -> Re
 }
 
 // The label places of slices.
-fn add_labels(tables: &mut Trace, slices: &[Slice]) -> Result<(), AllocError>
+pub(crate) fn add_labels(tables: &mut Trace, slices: &[Slice]) -> Result<(), AllocError>
     requires { All (λ p. p.first + 1 < 2 ^ 64) slices.now }
     ensures { OnOk result (Adds tables.old tables.new (IsPlace slices.now)) }
 {
@@ -104,6 +105,9 @@ pub(crate) fn tables_in_either<const B: usize>(
 {
     let mut tables = Trace::new(alloc);
     add_tables_of::<B>(alloc, &mut tables, &layouts.old)?;
+    if same_layout(&layouts.old, &layouts.new) {
+        return Ok(tables);
+    }
     add_tables_of::<B>(alloc, &mut tables, &layouts.new)?;
     Ok(tables)
 }

@@ -10,9 +10,11 @@ ghost use Rattle.pt_recover.specs.Alike.{IsAlike};
 ghost use Rattle.pt_recover.specs.Spans.{IsIn};
 ghost use Rattle.pt_check.specs.Answers.{CheckReads, fault_in, FailedInCheck, IsRecoveredOf};
 ghost use Rattle.pt_check.specs.inner.Answers.{TouchedIs, current_of, KeepsRead, StepIs, LastIs, SettlesFrom, TrialIs};
+ghost use Rattle.pt_check.specs.inner.Following.{AreFollowed, IsStepped, StepFollowed};
 
 use crate::answer::Why;
 use crate::error::CheckError;
+use crate::following::{Followed, follow_recovered, follow_writes, still_decided};
 use crate::objection::{Objection, first_in_phase};
 use crate::recovered::{Recovered, read_layout};
 use crate::same::same_layout;
@@ -21,6 +23,9 @@ use pt_gpt::LastArray;
 use pt_recover::{Layout, Trace, is_alike};
 use pt_sector::{Disk, FailedRead, Lba, Overlay, Room, read_sector};
 use std::alloc::Global;
+
+/// After so many recoveries the copies of the table are followed: to begin with that costs about as much as one or two.
+const MANY_RECOVERIES: usize = 8;
 
 /// What the phases came to: a reason against the plan, or the phase that gave the new layout, if it isn't the old one.
 #[derive(Clone, Copy)]
@@ -164,6 +169,59 @@ fn compare(found: &Option<Layout>, layouts: &Layouts, switch: Option<u64>, numbe
     }
 }
 
+/// What a recovery after a phase came to, and the sectors that it read.
+#[derive(Drop)]
+struct Stepped {
+    step: Step,
+    trace: Trace,
+}
+
+impl Stepped {
+    fn new(step: Step, after: Recovered) -> Stepped
+        ensures step { result.step ≡ step }
+        ensures trace { result.trace ≡ after.trace }
+    {
+        let (_, trace) = after.into_parts();
+        Stepped { step, trace }
+    }
+}
+
+/// What the disk denotes after the phase of this number. The copies that are followed are followed on.
+fn step_on<const B: usize, D: Disk<B>>(
+    alloc: Global,
+    disk: &mut D,
+    layouts: &Layouts,
+    switch: Option<u64>,
+    number: u64,
+    last: &mut LastArray,
+    followed: &mut Option<Followed>,
+    is_often: bool,
+) -> Result<Stepped, CheckError>
+    requires size { IsSectorSize B }
+    requires followed { D.tells → AreFollowed B (D.told disk.old).seen (current_of layouts.now.old layouts.now.new switch) followed.old }
+    ensures same { OnlyReads D.Disk disk.old disk.new }
+    ensures blames { Blames fault_in result (D.faults disk.old) (D.faults disk.new) }
+    ensures place { D.tells → IfErr result (FailedInCheck (Reads B (D.told disk.old).seen)) }
+    ensures stepped { D.tells → IfOk result (IsStepped B (D.told disk.old).seen layouts.now.old layouts.now.new switch number) }
+    ensures followed { D.tells → IfOk result
+        (λ r. StepFollowed B (D.told disk.old).seen layouts.now.old layouts.now.new r.step followed.new) }
+{
+    let after = read_layout(alloc, disk, last)?;
+    let step = compare(&after.layout, layouts, switch, number);
+    let Step::Goes(now) = step else {
+        return Ok(Stepped::new(step, after));
+    };
+    follow_recovered(
+        alloc,
+        disk,
+        &after.layout,
+        followed,
+        now == switch,
+        is_often,
+    )?;
+    Ok(Stepped::new(step, after))
+}
+
 /// How many phases there are until no later one writes a sector of the trace.
 fn settled<const B: usize>(plan: &Plan<B>, trace: &Trace) -> usize
     requires { IsSectorSize B }
@@ -239,6 +297,8 @@ pub(crate) fn try_phases<const B: usize, D: Disk<B>>(
     let mut over = Overlay::new(disk, room);
     let mut before = trace;
     let mut switch = None;
+    let mut followed = None;
+    let mut recoveries = 0;
     let settles = settled(plan, end);
     for i in 0..plan.phases.len() {
         let phase = &plan.phases[i];
@@ -251,16 +311,32 @@ pub(crate) fn try_phases<const B: usize, D: Disk<B>>(
         }
         let keeps = keeps_read(&mut over, phase, &before, current(layouts, switch))?;
         put_phase(&mut over, phase);
+        follow_writes(current(layouts, switch), &mut followed, phase);
         if keeps {
             continue;
         }
-        let after = read_layout(alloc, &mut over, last)?;
-        let (layout, trace) = after.into_parts();
-        switch = match compare(&layout, layouts, switch, number) {
+        let denoted = current(layouts, switch);
+        if let Some(decided) = still_decided(alloc, denoted, &mut followed, phase)? {
+            before = decided;
+            continue;
+        }
+        let is_often = recoveries >= MANY_RECOVERIES;
+        let after = step_on(
+            alloc,
+            &mut over,
+            layouts,
+            switch,
+            number,
+            last,
+            &mut followed,
+            is_often,
+        )?;
+        switch = match after.step {
             Step::Goes(switch) => switch,
             Step::Neither => return Ok(Trial::Refused(Why::Neither(number))),
         };
-        before = trace;
+        before = after.trace;
+        recoveries += 1;
     }
     Ok(Trial::Passed(switch))
 }

@@ -4,6 +4,8 @@ use Rattle.pt_sector.specs.Overlays.{room_left, shown, OnlyReads}
 use Rattle.pt_apply.specs.Plans.{phases_of, writes_in}
 use Rattle.pt_recover.specs.Denotes.{Denotes, Reads}
 use Rattle.pt_check.specs.Answers.{disk_after, Course}
+use Rattle.pt_check.specs.inner.Answers.{current_of}
+use Rattle.pt_check.specs.inner.Following.{AreFollowed}
 use Rattle.pt_check.proofs.Trying.{Reading}
 use Rattle.pt_check.proofs.trial.try_phases.Given as goal
 
@@ -19,4 +21,7 @@ invariant-loop-i g l = record {
   trace : g.D.Disk.tells → Reading (Reads g.row.B) (disk_after (phases_of l.plan) (g.D.Disk.told l.fn.disk).seen l.i) l.before;
   course : g.D.Disk.tells
       → Course (Denotes g.row.B) (Reads g.row.B) (phases_of l.plan) (g.D.Disk.told l.fn.disk).seen l.layouts.old l.layouts.new l.i l.switch;
+  few : l.recoveries ≤ l.i;
+  followed : g.D.Disk.tells → AreFollowed g.row.B (disk_after (phases_of l.plan) (g.D.Disk.told l.fn.disk).seen l.i)
+      (current_of l.layouts.old l.layouts.new l.switch) l.followed;
 }
