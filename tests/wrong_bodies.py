@@ -11,8 +11,7 @@ usage: tests/wrong_bodies.py [-v] [--keep DIR] [--beside FILE] [--turn N] [NAME[
 
 A wrong body is put into a copy of the crate as a second function beside the right one, with the same signature and contract and no proof by
 hand. For each function that has wrong bodies one more is put there, which only calls the right one: it must be proved. All of a crate are
-tried in one check, beside `rt ci` without those that are to be tried by hand. It ends with status 1 where a body isn't refused
-at its clause.
+tried in one check. It ends with status 1 where a body isn't refused at its clause.
 """
 import argparse
 import contextlib
@@ -43,8 +42,8 @@ rt = kit.load(ROOT)
 class Body:
     """A body to be tried: a wrong one and the clauses that refuse it, or, with none named, one that must be proved."""
 
-    def __init__(self, name, of, text="", refused="", uses=(), ghosts=(), by_hand=False):
-        self.name, self.text, self.uses, self.ghosts, self.by_hand = name, text, uses, ghosts, by_hand
+    def __init__(self, name, of, text="", refused="", uses=(), ghosts=()):
+        self.name, self.text, self.uses, self.ghosts = name, text, uses, ghosts
         self.file, _, self.of = of.partition(" ")
         self.clauses = [it.strip() for it in refused.split(",") if it]
 
@@ -62,11 +61,11 @@ def bodies_of(crate):
         head, _, text = block.strip("\n").partition("\nbody:\n")
         fields = [line.partition(": ")[::2] for line in head.split("\n")]
         one, uses, ghosts = dict(fields), *([value for key, value in fields if key == it] for it in ("use", "ghost"))
-        if one.keys() - {"use", "ghost", "tried"} != {"name", "of", "refused"} or one.get("tried", "by hand") != "by hand" or not text:
+        if one.keys() - {"use", "ghost"} != {"name", "of", "refused"} or not text:
             sys.exit(f"wrong_bodies.py: {table_of(crate)}: not a wrong body:\n{block}")
         if one["name"] in {it.name for it in found}:
             sys.exit(f"wrong_bodies.py: {table_of(crate)}: two bodies with one name: {one['name']}")
-        found.append(Body(one["name"], one["of"], text, one["refused"], uses, ghosts, "tried" in one))
+        found.append(Body(one["name"], one["of"], text, one["refused"], uses, ghosts))
     return found
 
 
@@ -176,7 +175,7 @@ def try_crate(crate, asked):
     while asked.beside and (proved := proved_by(asked.beside)) is not None and not {it.name for it in crate.below()} <= proved:
         time.sleep(SECONDS)
     wanted = {it.partition("/")[2] for it in asked.names if it.startswith(f"{crate.name}/")}
-    bodies = [it for it in bodies_of(crate) if (it.name in wanted if wanted else not (asked.beside and it.by_hand))]
+    bodies = [it for it in bodies_of(crate) if not wanted or it.name in wanted]
     if asked.turn is not None:
         bodies = bodies[asked.turn % TURNS::TURNS]
     with contextlib.ExitStack() as ends:
