@@ -1,9 +1,11 @@
 #!/usr/bin/env python3
 """Proves crates and all that they stand on, each once those below it are done, and builds them. Prints where each of them stands.
 
-usage: packaging/build.py [--over-ci] CRATE...     CRATE is a program, a static library or a library, as ptab, pt_c or pt_gpt
+usage: packaging/build.py [--over-ci | --unproved] CRATE...     CRATE is a program, a static library or a library, as ptab, pt_c or pt_gpt
   --over-ci   takes what `rt ci` has just proved and built. What it leaves out is proved and built: a static library, which it only proves,
               and a program's object, which it hasn't where it took what an earlier run kept
+  --unproved  proves nothing: builds programs of the sources as they stand, to be run over tests/ before there are proofs. They stand apart,
+              in out/unproved, and nothing is promised of them
 
 What was proved before is taken where neither the kit, nor a source, nor a crate below has changed since.
 """
@@ -16,6 +18,7 @@ import threading
 from concurrent.futures import ThreadPoolExecutor
 
 import kit
+import unproved
 
 ROOT = os.path.dirname(os.path.dirname(os.path.abspath(__file__)))
 MEMORY = 1_500_000_000  # bytes that a proof takes
@@ -86,13 +89,27 @@ def take(crate):
     return True
 
 
+def build_unproved(crate):
+    """Builds a program of what isn't proved, and returns where it stands."""
+    if not crate.is_program:
+        sys.exit(f"build.py: {crate.name} is no program")
+    print(f"build.py: building {crate.name}, unproved", file=sys.stderr, flush=True)
+    place, said = unproved.build(rt, crate)
+    return place or sys.exit(f"build.py: {crate.name} isn't built:\n{said}")
+
+
 def main():
-    reader = argparse.ArgumentParser(usage="packaging/build.py [--over-ci] CRATE...")
-    reader.add_argument("--over-ci", action="store_true")
+    reader = argparse.ArgumentParser(usage="packaging/build.py [--over-ci | --unproved] CRATE...")
+    how = reader.add_mutually_exclusive_group()
+    how.add_argument("--over-ci", action="store_true")
+    how.add_argument("--unproved", action="store_true")
     reader.add_argument("crates", nargs="+")
     asked, known = reader.parse_args(), {}
     tops = [rt.Crate(f"{ROOT}/crates/{it}", ROOT, known) for it in asked.crates]
     wanted = [known.get(it.folder, it) for it in tops]  # one may stand below another
+    if asked.unproved:
+        print(*map(build_unproved, wanted), sep="\n")
+        return
     crates = [*dict.fromkeys(it for top in wanted for it in [*top.below(), top])]
     # (until this script ends no other rt works in the crates that are locked)
     if not (all(map(take, crates)) if asked.over_ci else rt.rtlib.lock(crates) and prove_all(crates)):
