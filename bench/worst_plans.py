@@ -5,13 +5,15 @@ partitions, slices and labels. Prints what each kind costs, by what the same num
 usage: bench/worst_plans.py PTAB
 
 First each kind is tried with FEW phases, then the worst ones in turn with one another, phase by phase; then the worst of all with 4,096.
-`check` says yes to each. Instructions are callgrind's, in millions. It ends with status 1 where a bound below doesn't hold.
+A plan counts where `check` says yes to it. Instructions are callgrind's, in millions. It ends with status 1 where the bound below doesn't
+hold.
 """
 import itertools
 import os
 import subprocess
 import sys
 import tempfile
+import zlib
 
 from disks import full_gpt, labelled_chain, labelled_gpt
 from measure import instructions
@@ -28,7 +30,7 @@ MIXED = 4
 SECTORS = 65536
 
 
-# kinds of writes: of each number of a phase the sector and its bytes. What stands there before is written by the plan's end
+# kinds of phases: of each number its writes, sectors and their bytes. What stands there before is written by the plan's end
 
 
 def scribbled(image, places, at, length=4):
@@ -37,7 +39,7 @@ def scribbled(image, places, at, length=4):
         place = places[number % len(places)]
         found = bytearray(SMALL.sector(image, place))
         found[at:at + length] = (number + 1).to_bytes(length, "little")
-        return place, bytes(found)
+        return [(place, bytes(found))]
     return write
 
 
@@ -45,8 +47,38 @@ def lost_and_found(image, places):
     """Sectors that are zeroed and come back, one after the other."""
     def write(number):
         place = places[number // 2 % len(places)]
-        return place, bytes(512) if number % 2 == 0 else SMALL.sector(image, place)
+        return [(place, bytes(512) if number % 2 == 0 else SMALL.sector(image, place))]
     return write
+
+
+def sealed(sector, at, content):
+    """A header with other bytes, and with its CRC."""
+    found = bytearray(sector)
+    found[at:at + len(content)] = content
+    found[16:20] = bytes(4)
+    found[16:20] = zlib.crc32(found[:int.from_bytes(found[12:16], "little")]).to_bytes(4, "little")
+    return bytes(found)
+
+
+def with_other_alternate(image):
+    """Primary headers that differ in AlternateLBA, which no reading asks for."""
+    return lambda number: [(1, sealed(SMALL.sector(image, 1), 32, (number + 1).to_bytes(8, "little")))]
+
+
+def with_other_sum(image):
+    """Bytes of the last entry, which is unused, and then the header with the array's CRC."""
+    array = b"".join(SMALL.sector(image, place) for place in range(2, 34))
+
+    def write(number):
+        now = array[:-64] + (number // 2 + 1).to_bytes(64, "little")
+        return [(33, now[-512:])] if number % 2 == 0 else [(1, sealed(SMALL.sector(image, 1), 88, zlib.crc32(now).to_bytes(4, "little")))]
+    return write
+
+
+def two_elsewhere(image, places, write):
+    """A phase of two writes of these sectors, as they stand, before each two of these."""
+    same = [(place, SMALL.sector(image, place)) for place in places[:2]]
+    return lambda number: same if number % 3 == 0 else write(2 * (number // 3) + number % 3 - 1)
 
 
 def kinds_of_gpt(image, labels):
@@ -61,6 +93,11 @@ def kinds_of_gpt(image, labels):
     yield "the primary array, lost and found", lost_and_found(image, range(2, 34))
     yield "the backup array, lost and found", lost_and_found(image, backup)
     yield "sector 0, lost and found", lost_and_found(image, [0])
+    yield "AlternateLBA of the primary header", with_other_alternate(image)
+    yield "names in the primary array", scribbled(image, range(2, 34), 56)
+    yield "both writes in the backup / the primary array", two_elsewhere(image, backup, lost_and_found(image, range(2, 34)))
+    if SMALL.sector(image, 33)[-128:] == bytes(128):
+        yield "an unused entry and the sum of the array", with_other_sum(image)
     yield "names in the backup array", scribbled(image, backup, 56)
     yield "attributes in the backup array", scribbled(image, backup, 48)
     if labels:
@@ -97,17 +134,19 @@ def disks():
 
 
 def plan_of(image, writes, count):
-    """So many phases of a write each; what they change comes back in the last ones."""
+    """So many writes in phases; what they change comes back in the last ones, of one write each."""
     phases, now = [], {}
     for number in range(count):
-        place, content = writes(number)
-        phases.append((place, content))
-        now[place] = content
-        left = [(at, SMALL.sector(image, at)) for at, found in now.items() if found != SMALL.sector(image, at)]
-        if len(phases) + len(left) >= count:
-            phases = phases[:count - len(left)] + left
-            break
-    return [[write] for write in phases]
+        phases.append(writes(number))
+        now.update(phases[-1])
+        left = [[(at, SMALL.sector(image, at))] for at, found in now.items() if found != SMALL.sector(image, at)]
+        if sum(map(len, phases)) + len(left) >= count - 1:
+            return phases + left
+    return phases
+
+
+def harmless_of(writes):
+    return lambda number: [writes[number % len(writes)]]
 
 
 def in_turn(one, other):
@@ -132,19 +171,21 @@ class Search:
     def tried(self, title, image, name, writes, harmless):
         many = self.cost(image, writes, FEW)
         if many is None:
-            sys.exit(f"{title}: {name}: check doesn't say yes")
+            # as in turn, where the one writes what the other has recovery read
+            print(f"{title:27} {name:60.60} refused", flush=True)
+            return 0, title, image, name, writes
         print(f"{title:27} {name:60.60} {many / 1e6:8.2f} {many / harmless:6.2f}", flush=True)
         return many / harmless, title, image, name, writes
 
     def worst_of(self, title, image, places, kinds):
         """The worst kind on a disk."""
         same = [(place, SMALL.sector(image, place)) for place in places]
-        harmless = self.cost(image, lambda number: same[number % len(same)], FEW)
+        harmless = self.cost(image, harmless_of(same), FEW)
         print(f"{title:27} {'what stands there':60} {harmless / 1e6:8.2f} {1:6.2f}", flush=True)
         found = sorted((self.tried(title, image, *kind, harmless) for kind in kinds), key=lambda it: -it[0])
         for (_, _, _, one, first), (_, _, _, other, second) in itertools.combinations(found[:MIXED], 2):
             found.append(self.tried(title, image, f"{one} / {other}", in_turn(first, second), harmless))
-        return max(found, key=lambda it: it[0]), lambda number: same[number % len(same)]
+        return max(found, key=lambda it: it[0]), harmless_of(same)
 
 
 def main():
