@@ -4,7 +4,8 @@ one of them fails, and says which.
 
 usage: tests/side_by_side.py [--beside FILE] [--turn N] <LIST
   LIST            one script a line, with its words. A line that begins with `then` waits for the last line above it that doesn't, and
-                  isn't run where that one fails. One that begins with `even` or `odd` is for the turns whose number is so
+                  isn't run where that one fails. One that begins with `even` or `odd` is for the turns whose number is so. One that
+                  begins with `alone` is run at the end, when no other is: as one that what others do to the whole machine would disturb
   --beside FILE   while `rt ci` runs, which prints into this file: each script, once the crates are proved that its words name, as pt_c or
                   as the file of a built one
   --turn N        which turn it is; without it all scripts are run
@@ -99,18 +100,27 @@ def start_all(pool, groups, said):
     return [started[at] for at in range(len(groups))]
 
 
-def main(words):
-    said, turn = (words[words.index(it) + 1] if it in words else None for it in ("--beside", "--turn"))
-    groups = groups_of(in_turn([shlex.split(line) for line in sys.stdin if line.strip()], turn))
-    if not groups:
-        sys.exit("side_by_side.py: no script")
-    failed = []
+def all_answers(lines, said):
+    """(a script with its words, its answer), in the list's order, those at the end that are run alone."""
+    groups = groups_of([words for words in lines if words[0] != "alone"])
     with ThreadPoolExecutor(len(os.sched_getaffinity(0))) as pool:
         for group, answers in zip(groups, start_all(pool, groups, said)):
-            for words, (status, text) in zip(group, answers.result()):
-                name = os.path.basename(words[0])
-                print(f"== {name}\n{text}", end="", flush=True)
-                failed += [(name, text)] * (status != 0)
+            yield from zip(group, answers.result())
+    for words in lines:
+        if words[0] == "alone":
+            yield words[1:], run(words[1:])
+
+
+def main(words):
+    said, turn = (words[words.index(it) + 1] if it in words else None for it in ("--beside", "--turn"))
+    lines = in_turn([shlex.split(line) for line in sys.stdin if line.strip()], turn)
+    if not lines:
+        sys.exit("side_by_side.py: no script")
+    failed = []
+    for words, (status, text) in all_answers(lines, said):
+        name = os.path.basename(words[0])
+        print(f"== {name}\n{text}", end="", flush=True)
+        failed += [(name, text)] * (status != 0)
     if failed:
         # again at the end, which a log that is cut off keeps
         print(*(f"== {name} failed\n{text[-4000:]}" for name, text in failed), sep="\n")

@@ -173,6 +173,8 @@ def in_use(it, path):
         os.mkdir(place)
         must("mke2fs", "-q", "-F", first)
         must("mount", first, place)
+        # what mounting changed would else be written at any time
+        must("sync", "--file-system", place)
         try:
             told_in_use(it, loop, [loop.path], f"{first} is mounted on {place}")
             it.same("the other partition", it.run("repair", "--device", second)[1:], ("no table: copies 1 1\n", 4))

@@ -36,6 +36,8 @@ from tools import ENVIRONMENT, must
 
 RUN = failing_pages.RUN
 SECTORS = 1024
+# How often an edit is tried whose failure another program may have met. While others call sync(2) without a pause, that is most of them.
+TRIES = 200
 # what makes things durable, and could
 SYNCS = ("fsync", "fdatasync", "sync_file_range", "msync", "syncfs", "sync")
 
@@ -185,8 +187,8 @@ class Edit:
         """Whether that fault came; then the same edit again."""
         it, place = self.it, self.place
         self.told = f"{self.what} in {place.name} by {self.way.name}: {fault}"
-        # a sync(2) of some other program may be the flush that fails
-        for _ in range(5):
+        # a sync(2) of some other program may be the flush that fails, and then nobody is told
+        for _ in range(TRIES):
             status, came, left = self.once(fault)
             if not came or status != 0:
                 break
