@@ -1,4 +1,8 @@
-"""What `rt ci` has proved so far, for what test.sh runs beside it on processors that it leaves idle."""
+"""What `rt ci` has proved so far, for what test.sh runs beside it on processors that it leaves idle.
+
+Of what it prints, `rt --help` tells the last line. That there is one for each crate that it has proved, no guide says: where there is none,
+as for a crate that it takes from an earlier run, what waits for that crate starts at the end.
+"""
 import re
 import sys
 

@@ -27,6 +27,7 @@ from concurrent.futures import ThreadPoolExecutor
 ROOT = os.path.dirname(os.path.dirname(os.path.abspath(__file__)))
 sys.path.insert(0, f"{ROOT}/packaging")
 sys.path.insert(0, f"{ROOT}/tests")
+import crates  # noqa: E402
 import kit  # noqa: E402
 from beside import SECONDS, proved_by  # noqa: E402
 from functions import second  # noqa: E402
@@ -36,7 +37,6 @@ MEMORY = 4_000_000_000
 LANES_BESIDE = 2
 # After how many turns each body has been tried.
 TURNS = 3
-rt = kit.load(ROOT)
 
 
 class Body:
@@ -99,7 +99,7 @@ def texts_with(crate, bodies):
 def check(crate, texts, names, kept):
     """Checks the functions of these names in a copy of the crate with these texts, over what kept holds. What the prover said."""
     with tempfile.TemporaryDirectory(prefix="wrong-bodies-") as room:
-        for part in rt.rtlib.PARTS:
+        for part in crates.PARTS:
             if os.path.isdir(f"{crate.folder}/{part}"):
                 shutil.copytree(f"{crate.folder}/{part}", f"{room}/{part}")
         for path, text in texts.items():
@@ -107,7 +107,7 @@ def check(crate, texts, names, kept):
             with open(f"{room}/{path}", "w", encoding="utf-8") as it:
                 it.write(text)
         flags = ["--jobs", "1", *(it for name in names for it in ("--only", name))]
-        ran = subprocess.run(kit.checking(rt, crate, flags, kept), cwd=room, stdin=subprocess.DEVNULL, stdout=subprocess.PIPE,
+        ran = subprocess.run(kit.checking(crate, flags, kept), cwd=room, stdin=subprocess.DEVNULL, stdout=subprocess.PIPE,
                              stderr=subprocess.STDOUT, errors="replace", check=False)
     return ran.stdout
 
@@ -196,7 +196,7 @@ def main():
     reader.add_argument("--turn", type=int)
     reader.add_argument("names", nargs="*")
     asked = reader.parse_args()
-    having = {it.name: it for it in rt.rtlib.crates_below(ROOT) if os.path.isfile(table_of(it))}
+    having = {name: it for name, it in crates.crates_of(ROOT).items() if os.path.isfile(table_of(it))}
     names = list(dict.fromkeys(it.partition("/")[0] for it in asked.names)) or [*having]
     for name in names:
         if name not in having:
@@ -204,7 +204,7 @@ def main():
     below = sorted({lib.name for name in names for lib in having[name].below()})
     if below and not asked.beside:
         subprocess.run([sys.executable, f"{ROOT}/packaging/build.py", *below], stdout=subprocess.DEVNULL, check=True)
-    lanes = max(1, min(LANES_BESIDE if asked.beside else rt.processors(), rt.free() // MEMORY))
+    lanes = max(1, min(LANES_BESIDE if asked.beside else kit.processors(), kit.free_memory() // MEMORY))
     with ThreadPoolExecutor(lanes) as pool:
         failures = [text for found in pool.map(lambda it: try_crate(having[it], asked), names) for text in found]
     print(*failures, f"wrong bodies: {len(failures)} failed", sep="\n")
