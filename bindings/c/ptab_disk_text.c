@@ -1,6 +1,6 @@
 /*
- * The sentences of statuses and replies, and the text of a name. They are those that the library's errors print
- * (docs/commands.md); tests/docs/messages.py holds them against these.
+ * The sentence of a status and its reply, and the text of a name. The sentences stand in docs/texts.toml, and
+ * packaging/put_texts.py writes ptab_disk_texts.h from it; those of the library are what its errors print.
  */
 #define _POSIX_C_SOURCE 200809L
 #include "ptab_disk.h"
@@ -9,158 +9,10 @@
 
 /*
  * In a sentence {a} and {b} are the arguments of the reply, as numbers or as partitions; {A} and {B} are the sentences of
- * the faults of a copy that have these numbers; {s} is the sector, {n} the count, {k} a kind of file.
+ * the faults of a copy that have these numbers; {s} is the sector, {n} the count, {k} a kind of file, {K} the key of a
+ * table's text.
  */
-static const char *const copies[] = {
-    NULL,
-    "the signature isn't EFI PART",
-    "the revision isn't 1.0",
-    "the header's size isn't from 92 to that of a sector",
-    "the header's CRC is wrong",
-    "the header names another sector as its own",
-    "the array isn't beside the header",
-    "there aren't 1 to 128 entries of 128 bytes",
-    "the usable sectors aren't in order and clear of both copies",
-    "the array's CRC is wrong",
-};
-
-static const char *const chains[] = {
-    NULL,
-    "the extended boot record at sector {b} lacks 55 AA",
-    "the extended boot record at sector {b} has a record that it may not have",
-    "the link at sector {b} leads to its own sector or to a lower one",
-    "the chain leads to sector {b}, outside the extended partition or the disk",
-    "the chain has more than 128 extended boot records",
-};
-
-static const char *const tables[] = {
-    NULL,
-    "no MBR, and neither copy of a GPT exists: {A} (primary); {B} (backup)",
-    NULL,
-    "two records of type 05 or 0F",
-    "no MBR, and fewer sectors than a GPT takes",
-};
-
-static const char *const findings[] = {
-    NULL,
-    "there is no table",
-    "the primary copy of the GPT doesn't exist: {A}",
-    "the backup copy of the GPT doesn't exist: {A}",
-    "the copies of the GPT have different tables",
-    NULL,
-    "sector 0 isn't a protective MBR",
-    "{a} isn't inside what may hold it",
-    "{a} and {b} share a sector",
-    "{a} covers sector {b}, where a table stands",
-    "entries {a} and {b} have one unique GUID",
-    "the second sector of slice {a} holds a foreign label",
-};
-
-static const char *const alternates[] = {
-    NULL,
-    "the primary header doesn't name the backup's sector",
-    "the backup header doesn't name the primary's sector",
-};
-
-static const char *const words[] = {
-    NULL,
-    "another letter than a word's",
-    "another number of fields",
-    "a number or a path that is none, or out of range",
-    "not a GUID",
-    "a code that isn't two or four hexadecimal digits",
-};
-
-static const char *const edits[] = {
-    NULL,
-    "no such partition",
-    "the number is taken",
-    "no space",
-    "outside the usable sectors",
-    "it would share a sector with another",
-    "not a type code there",
-    "a name over 36 units",
-    "not with a container",
-    "the word isn't for this kind of table",
-    "no fresh GUID is left",
-    "another partition has this GUID",
-    "the disk has no room for a GPT",
-    "a letter in a slice without a label",
-    "out of memory",
-    "the offset doesn't fit a label that counts sectors of the disk",
-};
-
-static const char *const plans[] = {
-    NULL,
-    "no order of writes has one moment of change",
-    "a sector that a partition of the old layout owns would be written",
-    "only a label changes, and the GPT needs mending",
-    "the new layout isn't sound",
-};
-
-static const char *const checks[] = {
-    NULL,
-    "more than 4096 writes",
-    "write {a} is of a sector past the last",
-    "write {a} changes boot code, bytes 0 to 439 of sector 0",
-    "phase {a} has several writes, and sector {b} is one that decides the layout",
-    "after phase {a} the layout is neither the old nor the new one, or the old one again once the new one was there",
-    "sector {a} is written, and is in the tables of neither layout",
-    "sector {a} is written, and a partition of the old or the new layout owns it",
-    "the finished disk isn't healthy: finding {a}",
-};
-
-static const char *const repairs[] = {
-    NULL,
-    NULL,
-    "a repair leaves it to you: finding {a}",
-};
-
-static const char *const adoptions[] = {
-    NULL,
-    "the other disk has another number of sectors",
-};
-
-static const char *const keys[] = {
-    NULL, "text", "partitiontable", "unknown", "label", "device", "unit", "sectorsize", "sectors", "id", "firstlba",
-    "lastlba", "entries", "table-length", "partitions", "chain", "number", "node", "start", "size", "last", "offset",
-    "type", "type_name", "uuid", "name", "name_units", "attributes", "attrs", "bootable", "boot", "start_chs",
-    "end_chs", "record", "bsd",
-};
-
-static const char *const arguments[] = {
-    NULL,
-    "the sector size is neither 512 nor 4096",
-    "the view's bytes aren't a whole sector for each of its numbers, its primary is more than 2, or the disk has 2^64 bytes or more",
-    "the number is 0, or the letter is neither 0 nor from a to h",
-    "the random bytes aren't whole groups of 16",
-    "there are no words, or they aren't UTF-8",
-    "the plan's bytes aren't a whole sector for each write, or the phase of write {a} isn't in order",
-    "the other disk has sectors of another size",
-    "the other view's bytes aren't a whole sector for each of its numbers, its primary is more than 2, or its disk has 2^64 bytes "
-    "or more",
-    "the device's name or the table's text isn't UTF-8",
-};
-
-static const char *const disks[] = {
-    NULL,
-    "the disk can't be opened",
-    "this is {k}",
-    "sector {s} can't be read",
-    "sector {s} can't be written",
-    "the disk can't be flushed",
-    "the disk can't be locked",
-    "the lock is held elsewhere",
-    "the device is in use",
-    "the device has sectors of {a} bytes",
-    "the disk was opened for reading alone",
-    "the system gives no random bytes",
-    "there is no such way to open a disk",
-    "the disk was opened by another process",
-};
-
-static const char *const kinds[] = {"no file or block device", "a plain file", "a block device", "a folder",
-                                    "a character device", "a pipe", "a socket"};
+#include "ptab_disk_texts.h"
 
 static const struct {
   const char *const *sentences;
@@ -176,7 +28,6 @@ static const struct {
     [PTAB_ABOUT_REPAIR] = {repairs, sizeof repairs / sizeof *repairs},
     [PTAB_ABOUT_ADOPT] = {adoptions, sizeof adoptions / sizeof *adoptions},
     [PTAB_ABOUT_OTHER_TABLE] = {tables, sizeof tables / sizeof *tables},
-    [PTAB_ABOUT_TEXT] = {keys, sizeof keys / sizeof *keys},
     [PTAB_ABOUT_DISK] = {disks, sizeof disks / sizeof *disks},
     [PTAB_ABOUT_OTHER_DISK] = {disks, sizeof disks / sizeof *disks},
 };
@@ -229,6 +80,7 @@ static void put_argument(struct text *it, char letter, const ptab_reply *r) {
     case 'B': put_all(it, OF(copies, r->b)); break;
     case 's': put_number(it, r->sector, 0); break;
     case 'n': put_number(it, r->count, 0); break;
+    case 'K': put_all(it, OF(keys, r->number)); break;
     default: put_all(it, OF(kinds, r->a)); break;
   }
 }
@@ -248,25 +100,16 @@ static void put_sentence(struct text *it, const char *sentence, const ptab_reply
 static const char *sentence_of(const ptab_reply *r) {
   if ((r->about == PTAB_ABOUT_TABLE || r->about == PTAB_ABOUT_OTHER_TABLE) && r->number == 2) return OF(chains, r->a);
   if (r->about == PTAB_ABOUT_FINDING && r->number == 5) return OF(alternates, r->a);
+  if (r->about == PTAB_ABOUT_TEXT && r->number > 0 && r->number < sizeof keys / sizeof *keys) return faults[r->a ? 2 : 1];
   if (r->about >= sizeof about / sizeof *about || r->number >= about[r->about].count) return NULL;
   return about[r->about].sentences[r->number];
 }
 
 /* The sentence of a status that is about nothing. */
 static const char *sentence_alone(int32_t status) {
-  switch (status) {
-    case PTAB_DONE: return "done";
-    case PTAB_NO: return "the partition has no such sector";
-    case PTAB_USAGE: return "an argument has no meaning";
-    case PTAB_REFUSED: return "it is refused";
-    case PTAB_NO_TABLE: return "there is no table";
-    case PTAB_DEVICE: return "the disk failed";
-    case PTAB_MEMORY: return "out of memory";
-    case PTAB_WANT: return "sector {s} is wanted";
-    case PTAB_WANT_OTHER: return "sector {s} of the other disk is wanted";
-    case PTAB_ROOM: return "a buffer is too small: it takes {n} rows, writes or bytes";
-    default: return "no status of this library";
-  }
+  for (size_t k = 0; k < sizeof statuses / sizeof *statuses; k++)
+    if (statuses[k].status == status) return statuses[k].sentence;
+  return "no status of this library";
 }
 
 /* Adds what the system says of a device's fault. */
@@ -290,7 +133,6 @@ static const char *before(int32_t status, const ptab_reply *r) {
     case PTAB_ABOUT_OTHER_TABLE:
     case PTAB_ABOUT_OTHER_DISK: return "the other disk: ";
     case PTAB_ABOUT_WORD: return "word {a}: ";
-    case PTAB_ABOUT_TEXT: return r->a ? "object {a} of `partitions` has a fault at `" : "the table's text has a fault at `";
     case PTAB_ABOUT_CHECK: return status == PTAB_REFUSED ? "the plan is refused: " : "";
     default: return "";
   }
@@ -301,7 +143,6 @@ size_t ptab_message(int32_t status, const ptab_reply *reply, char *text, size_t 
   const char *sentence = sentence_of(reply);
   if (sentence) put_sentence(&it, before(status, reply), reply);
   put_sentence(&it, sentence ? sentence : sentence_alone(status), reply);
-  if (sentence && reply->about == PTAB_ABOUT_TEXT) put(&it, "`", 1);
   if (status == PTAB_DEVICE) put_error(&it, reply);
   return ended(&it);
 }

@@ -1,6 +1,6 @@
 //! What the command says of itself. By `-h` each page stays within a screen of 24 lines of 80 characters. `--help` has besides each text
-//! that the command prints of a fault, a refusal or a no, with its number and the sentence that says what it means. These are the
-//! library's sentences, and those of docs/commands.md and man/ptab.8: tests/docs/man_page.py compares all four.
+//! that the command prints of a fault, a refusal or a no, with its number and the sentence that says what it means. These rows are
+//! what docs/texts.toml says, as in docs/commands.md and man/ptab.8: packaging/put_texts.py writes them.
 
 /// The version that `--version` prints behind the program's name.
 pub const VERSION: &str = "0.9.0";
