@@ -1,16 +1,18 @@
 -- What was read at a side's place is its header, or its fault.
 use Rattle.std.proofs.Common.{◌≡◌, ◌≤◌, ◌<◌, ◌+◌, ◌*◌, ◌^◌, ℕ, List, refl, ap, ◌∙◌, subst, inl, inr, arith}
-use Rattle.std.specs.Prelude.{◌⊎◌, length, Option, None}
+use Rattle.std.specs.Prelude.{◌⊎◌, length, Option, None, Bool, IsTrue}
 use Rattle.pt_sector.specs.Sectors.{Sectors, sector, IsSectorSize}
 use Rattle.pt_sum.specs.Sums.{crc_of}
 use Rattle.pt_gpt.specs.Copies.{IsOutsideCopy, NeedsNoMemory, FailedInCopy, fault_in, HeaderBytes, IsHeaderFault, header_place, IsPlaced}
 use Rattle.pt_gpt.specs.Copies.{IsPlaceFault, IsHead, no_header, misplaced, no_head, other_crc, array_of, HasArrayCrc, CopyWith}
-use Rattle.pt_gpt.specs.Copies.{AreEntries, HasRoom, counted, TellsHeadFault, TellsFault}
+use Rattle.pt_gpt.specs.Copies.{AreEntries, HasRoom, counted, TellsHeadFault, TellsFault, TellsSame}
+use Rattle.pt_gpt.specs.inner.Copies.{HasNumbers}
 use Rattle.pt_gpt.specs.declared.header.Header.{Header}
 use Rattle.pt_gpt.specs.declared.entry.Entry.{Entry}
 use Rattle.pt_gpt.specs.declared.error.CopyError.{CopyError}
 use Rattle.pt_gpt.specs.declared.error.CopyError.TheVariants.{ArrayCrc, Device, Memory}
 use Rattle.pt_gpt.specs.declared.table.Side.{Side}
+use Rattle.pt_gpt.specs.declared.table.Table.{Table}
 use Rattle.pt_gpt.specs.declared.table.Side.TheVariants.{Primary, Backup}
 
 -- n is the count of sectors that the reader asked for
@@ -82,3 +84,22 @@ array_within b Backup n h (inr e) room placed =
 pub small_within : (b n a : ℕ) → IsSectorSize b → n * b ≤ 2 ^ 64 → a ≤ n → a < 2 ^ 64
 small_within b n a (inl e) small within = let s = rw e at small in omega (arith, s, within)
 small_within b n a (inr e) small within = let s = rw e at small in omega (arith, s, within)
+
+same_table : (t u : Table) → u.disk ≡ t.disk → u.first ≡ t.first → u.last ≡ t.last → u.entries ≡ t.entries → u ≡ t
+same_table t u disk first last entries = λ i. record { disk = disk i; first = first i; last = last i; entries = entries i }
+
+-- of the copy with these entries
+pub tells_same : (b : ℕ) (d : Sectors) (side : Side) (h : Header) (t : Table) (es : List (Option Entry)) (same : Bool) → IsHead b d side h
+    → h.array_crc ≡ crc_of (array_of b d h) → length (array_of b d h) ≡ h.count * 128 → AreEntries es (array_of b d h)
+    → (IsTrue same → (es ≡ t.entries) × HasNumbers h t) → (es ≡ t.entries → HasNumbers h t → IsTrue same) → TellsSame b d side h t same
+tells_same b d side h t es same head crc long are told back =
+    let u : Table = record { disk = h.disk; first = h.first; last = h.last; entries = es } in
+    let count : length es ≡ h.count = omega (arith, are.count, long) in (
+      u,
+      table_of b d side h es head crc count are,
+      (
+        λ is. let p = told is in same_table t u p.1.0 p.1.1 p.1.2 p.0,
+        λ is. back (ap (λ (x : Table). x.entries) is)
+            (ap (λ (x : Table). x.disk) is, ap (λ (x : Table). x.first) is, ap (λ (x : Table). x.last) is),
+      ),
+    )

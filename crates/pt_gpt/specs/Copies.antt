@@ -1,6 +1,6 @@
 -- A copy of a GPT: its header, its array, and why a copy doesn't exist.
 use Rattle.std.specs.Prelude.{◌≡◌, ◌<◌, ◌≤◌, ℕ, zero, suc, ◌+◌, ◌-◌, ◌*◌, ◌/◌, List, [], ◌++◌, length, slice_range, slice_index_or}
-use Rattle.std.specs.Prelude.{Option, None, IfSome, take, codes, replicate, ◌⊎◌, ◌↔◌, Some}
+use Rattle.std.specs.Prelude.{Option, None, IfSome, take, codes, replicate, ◌⊎◌, ◌↔◌, Some, Bool, IsTrue}
 use Rattle.pt_gpt.specs.Entries.{EntryIs, EntryFits, IsTyped, entry_bytes}
 use Rattle.pt_gpt.specs.declared.array.EncodedArray.{EncodedArray}
 use Rattle.pt_gpt.specs.declared.entry.Entry.{Entry}
@@ -199,6 +199,10 @@ pub record Copy (b : ℕ) (d : Sectors) (side : Side) (t : Table) : Type 0 where
   pub room : HasRoom b (length d)
   pub head : Header
   pub stands : CopyWith b d side head t
+
+-- the side's header is h, and a copy stands there with it: whether that is a copy of t
+abbrev pub TellsSame : ℕ → Sectors → Side → Header → Table → Bool → Type 0
+TellsSame b d side h t same = (u : Table) × CopyWith b d side h u × (IsTrue same ↔ (u ≡ t))
 
 abbrev pub HasCopy : ℕ → Sectors → Side → Type 0
 HasCopy b d side = (t : Table) × Copy b d side t

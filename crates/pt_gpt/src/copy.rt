@@ -1,13 +1,15 @@
 //! Reading a copy of the table from a disk.
 
-ghost use Rattle.std.specs.Prelude.{◌≡◌, ◌⊎◌, ◌+◌, ◌*◌, ◌<◌, ◌≤◌, IfOk, IfErr, OnOk, length};
+ghost use Rattle.std.specs.Prelude.{◌≡◌, ◌⊎◌, ◌+◌, ◌*◌, ◌<◌, ◌≤◌, ◌↔◌, IfOk, IfErr, OnOk, IsTrue, length};
 ghost use Rattle.pt_sector.specs.Sectors.{IsSectorSize, sector};
 ghost use Rattle.pt_sector.specs.Device.{Blames};
 ghost use Rattle.pt_sector.specs.Overlays.{OnlyReads};
 ghost use Rattle.pt_gpt.specs.Copies.{IsOutsideCopy, NeedsNoMemory, fault_in, FailedInCopy, HeaderBytes, IsHeaderFault, HasRoom};
 ghost use Rattle.pt_gpt.specs.Copies.{header_place, IsPlaced, IsHead, CopyWith, Copy, SideReads, TellsHeadFault, TellsFault};
+ghost use Rattle.pt_gpt.specs.Copies.{AreEntries, TellsSame};
+ghost use Rattle.pt_gpt.specs.inner.Copies.{HasNumbers};
 
-use crate::entries::read_entries;
+use crate::entries::{read_entries, read_same_entries};
 use crate::error::CopyError;
 use crate::header::{Header, decode_header};
 use crate::last::LastArray;
@@ -77,6 +79,7 @@ pub fn read_table<const B: usize, D: Disk<B>>(
     ensures with { D.tells → IfOk result (λ t. CopyWith B (D.told disk.old).seen side header.now t) }
     ensures err { D.tells → IfErr result (λ e. TellsFault B (D.told disk.old).seen side e) }
     ensures place { D.tells → IfErr result (FailedInCopy (SideReads B (D.told disk.old).seen side)) }
+    ensures last { IfOk result (λ t. AreEntries t.entries last.new) }
 {
     let (crc, entries) = read_entries(alloc, disk, header.array, header.count, last)?;
     if crc != header.array_crc {
@@ -88,6 +91,50 @@ pub fn read_table<const B: usize, D: Disk<B>>(
         last: header.last,
         entries,
     })
+}
+
+// Whether a table has the header's DiskGUID and its usable sectors.
+fn has_numbers(header: &Header, table: &Table) -> bool
+    ensures { IsTrue result ↔ HasNumbers header.now table.now }
+{
+    header.disk == table.disk && header.first == table.first && header.last == table.last
+}
+
+/// Whether the copy whose header stands on this side is of this table, whose entries are those of the last array.
+///
+/// It reads and fails as `read_table`. Where the array has the bytes of the last one, it is neither summed nor decoded, and no entry
+/// is compared. Other bytes are decoded: they may be the same entries, since the bytes of an unused one are free but for its type.
+pub fn read_same<const B: usize, D: Disk<B>>(
+    alloc: Global,
+    disk: &mut D,
+    side: Side,
+    header: &Header,
+    table: &Table,
+    last: &mut LastArray,
+) -> Result<bool, CopyError>
+    requires size { IsSectorSize B }
+    requires room { HasRoom B (D.count disk.old) }
+    requires placed { IsPlaced B side (D.count disk.old) header.now }
+    requires head { D.tells → IsHead B (D.told disk.old).seen side header.now }
+    requires last { AreEntries table.now.entries last.old }
+    ensures same { OnlyReads D.Disk disk.old disk.new }
+    ensures blames { Blames fault_in result (D.faults disk.old) (D.faults disk.new) }
+    ensures ok { D.tells → IfOk result (TellsSame B (D.told disk.old).seen side header.now table.now) }
+    ensures err { D.tells → IfErr result (λ e. TellsFault B (D.told disk.old).seen side e) }
+    ensures place { D.tells → IfErr result (FailedInCopy (SideReads B (D.told disk.old).seen side)) }
+{
+    let (crc, same) = read_same_entries(
+        alloc,
+        disk,
+        header.array,
+        header.count,
+        &table.entries,
+        last,
+    )?;
+    if crc != header.array_crc {
+        return Err(CopyError::ArrayCrc);
+    }
+    Ok(same && has_numbers(header, table))
 }
 
 /// The table of a side's copy, on a disk of at least 2A + 4 sectors, where an array of 128 entries takes A.

@@ -1,17 +1,18 @@
 //! Reading the entries of an array, sector by sector.
 
 ghost use Rattle.std.specs.Prelude.{◌≡◌, ◌+◌, ◌*◌, ◌/◌, ◌<◌, ◌≤◌, ◌^◌, ◌++◌, IfOk, IfErr, OnOk, List, Option, length, take, vec_len};
-ghost use Rattle.std.specs.Prelude.{vec_capacity};
+ghost use Rattle.std.specs.Prelude.{vec_capacity, IsTrue};
 ghost use Rattle.pt_sum.specs.Sums.{crc_of};
 ghost use Rattle.pt_sector.specs.Sectors.{IsSectorSize};
 ghost use Rattle.pt_sector.specs.Device.{Blames};
 ghost use Rattle.pt_sector.specs.Overlays.{OnlyReads};
 ghost use Rattle.pt_gpt.specs.Copies.{IsOutsideCopy, fault_in, FailedInCopy, counted, AreEntries, bytes_from};
+ghost use Rattle.pt_gpt.specs.inner.Copies.{HaveEntries};
 ghost use Rattle.pt_gpt.specs.declared.entry.Entry.{Entry};
 
 use crate::entry::Entry;
 use crate::error::CopyError;
-use crate::last::LastArray;
+use crate::last::{LastArray, Taken};
 use crate::place::counted_sectors;
 use crate::table::Entries;
 use crate::view::{ENTRY_SIZE, EntryView};
@@ -92,8 +93,58 @@ pub(crate) fn read_entries<const B: usize, D: Disk<B>>(
     ensures crc { D.tells → IfOk result (λ r. r.0 ≡ crc_of (take (count * 128) (bytes_from (D.told disk.old).seen at (counted B count)))) }
     ensures entries { D.tells → IfOk result (λ r. AreEntries r.1
         (take (count * 128) (bytes_from (D.told disk.old).seen at (counted B count)))) }
+    ensures last { IfOk result (λ r. AreEntries r.1 last.new) }
 {
     let bytes = read_bytes(alloc, disk, at, count)?;
     let entries = entries_in(alloc, &bytes)?;
-    Ok((last.take(bytes), entries))
+    let taken = last.take(bytes);
+    Ok((taken.crc, entries))
+}
+
+// Whether these bytes, which were taken last, are those entries. They aren't decoded where they are the bytes that the entries were
+// decoded from.
+fn have_entries(
+    alloc: Global,
+    bytes: &[u8],
+    taken: Taken,
+    entries: &Entries,
+) -> Result<bool, AllocError>
+    requires whole { length bytes.now ≡ length bytes.now / 128 * 128 }
+    requires same { IsTrue taken.same → AreEntries entries.now bytes.now }
+    ensures { IfOk result (HaveEntries bytes.now entries.now) }
+{
+    if taken.same {
+        return Ok(true);
+    }
+    Ok(entries_in(alloc, bytes)?.same(entries))
+}
+
+// The CRC of the array from sector `at` on, and whether it has these entries, which are those of the last array.
+pub(crate) fn read_same_entries<const B: usize, D: Disk<B>>(
+    alloc: Global,
+    disk: &mut D,
+    at: u64,
+    count: u32,
+    entries: &Entries,
+    last: &mut LastArray,
+) -> Result<(u32, bool), CopyError>
+    requires size { IsSectorSize B }
+    requires most { count ≤ 128 }
+    requires fits { at + counted B count < 2 ^ 64 }
+    requires within { at + counted B count ≤ D.count disk.old }
+    requires last { AreEntries entries.now last.old }
+    ensures same { OnlyReads D.Disk disk.old disk.new }
+    ensures blames { Blames fault_in result (D.faults disk.old) (D.faults disk.new) }
+    ensures outside { IfErr result IsOutsideCopy }
+    ensures place { IfErr result (FailedInCopy (λ s. (at ≤ s) × (s < at + counted B count))) }
+    ensures number { D.tells → IfOk result (λ r. length
+        (take (count * 128) (bytes_from (D.told disk.old).seen at (counted B count))) ≡ count * 128) }
+    ensures crc { D.tells → IfOk result (λ r. r.0 ≡ crc_of (take (count * 128) (bytes_from (D.told disk.old).seen at (counted B count)))) }
+    ensures entries { D.tells → IfOk result (λ r. HaveEntries
+        (take (count * 128) (bytes_from (D.told disk.old).seen at (counted B count))) entries.now r.1) }
+{
+    let bytes = read_bytes(alloc, disk, at, count)?;
+    let taken = last.take(bytes);
+    let same = have_entries(alloc, last.as_slice(), taken, entries)?;
+    Ok((taken.crc, same))
 }

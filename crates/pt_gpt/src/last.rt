@@ -1,6 +1,6 @@
 //! The array that was read last.
 
-ghost use Rattle.std.specs.Prelude.{◌≡◌};
+ghost use Rattle.std.specs.Prelude.{◌≡◌, ◌↔◌, IsTrue};
 ghost use Rattle.pt_sum.specs.Sums.{crc_of};
 
 use pt_sum::crc32;
@@ -26,6 +26,15 @@ impl Model for LastArray {
     ghost invariant = { λ a. a.crc ≡ crc_of a.bytes.items };
 }
 
+/// What is known of the next array's bytes once they are taken.
+#[derive(Clone, Copy, Debug, PartialEq, Eq)]
+pub struct Taken {
+    /// Their CRC-32.
+    pub crc: u32,
+    /// Whether they are those of the array before.
+    pub same: bool,
+}
+
 impl LastArray {
     /// Before the first one.
     pub fn new(alloc: Global) -> LastArray {
@@ -35,15 +44,27 @@ impl LastArray {
         }
     }
 
-    /// Takes the bytes of the next array. The answer is their CRC-32.
-    pub fn take(&mut self, bytes: Vec<u8>) -> u32
-        ensures value { result ≡ crc_of bytes.items }
+    /// Its bytes.
+    pub fn as_slice(&self) -> &[u8]
+        ensures { result.now ≡ self.now }
+    {
+        self.bytes.as_slice()
+    }
+
+    /// Takes the bytes of the next array. They are summed where they aren't those of this one.
+    pub fn take(&mut self, bytes: Vec<u8>) -> Taken
+        ensures value { result.crc ≡ crc_of bytes.items }
+        ensures same { IsTrue result.same ↔ (bytes.items ≡ self.old) }
         ensures taken { self.new ≡ bytes.items }
     {
-        if self.bytes.as_slice() != bytes.as_slice() {
+        let same = self.bytes.as_slice() == bytes.as_slice();
+        if !same {
             self.crc = crc32(&bytes);
             self.bytes = bytes;
         }
-        self.crc
+        Taken {
+            crc: self.crc,
+            same,
+        }
     }
 }

@@ -17,11 +17,11 @@ mod table;
 mod view;
 
 pub use array::{EncodedArray, array_crc, encode_array, encode_array_sector};
-pub use copy::{read_copy, read_head, read_table};
+pub use copy::{read_copy, read_head, read_same, read_table};
 pub use entry::{Entry, decode_entry, encode_entry};
 pub use error::CopyError;
 pub use header::{Header, decode_header, encode_header};
-pub use last::LastArray;
+pub use last::{LastArray, Taken};
 pub use place::{
     MOST_ENTRIES, array_at, array_sectors, counted_sectors, first_usable, has_room, header_at,
 };

@@ -16,7 +16,7 @@ use Rattle.pt_sector.specs.Sectors.{Sectors, Writes, written, sector_at, IsAscen
 use Rattle.pt_sector.specs.Sectors.{slot_at, SlotsFit, SlotsApart}
 use Rattle.pt_sector.specs.inner.Sectors.{value_after, IsGapFor}
 use Rattle.pt_sector.proofs.Written.{written-append}
-use Rattle.pt_sector.specs.declared.put.Put.{Put}
+use Rattle.pt_sector.specs.declared.own.Put.{Put}
 
 -- no write is of sector k
 abbrev pub HasNone : Writes → ℕ → Type 0

@@ -2,7 +2,7 @@
 use Rattle.std.specs.Prelude.{◌≡◌, ◌⊎◌, ◌≤◌, ℕ, List, [], length, slice_index_or, ◌<◌, ◌∷◌, slice_set, ◌≢◌, map}
 use Rattle.std.specs.Prelude.{slice_range, ◌+◌}
 use Rattle.byteorder.specs.Endian.{little_number}
-use Rattle.pt_sector.specs.declared.put.Put.{Put}
+use Rattle.pt_sector.specs.declared.own.Put.{Put}
 
 -- ## The value of a disk: the list of its sectors.
 

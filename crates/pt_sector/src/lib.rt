@@ -8,7 +8,6 @@ mod disk;
 mod moments;
 mod overlay;
 mod own;
-mod put;
 mod read_cache;
 mod reading;
 mod room;

@@ -5,8 +5,14 @@ ghost use Rattle.pt_sector.specs.Sectors.{SlotsApart};
 ghost use Rattle.pt_sector.specs.inner.Sectors.{value_after, IsGapFor};
 
 use crate::address::Lba;
-use crate::put::Put;
 use std::alloc::{AllocError, Global};
+
+/// A sector, and the place of its bytes among those that are kept.
+#[derive(Clone, Copy)]
+pub(crate) struct Put {
+    pub(crate) lba: Lba,
+    pub(crate) slot: usize,
+}
 
 /// The sectors of an overlay's own, each once and in order, in room for a fixed number of them. Their bytes stand in the
 /// order in which the sectors came, so that a new one moves no bytes.

@@ -1,9 +1,12 @@
 -- A copy of a GPT: its header, its array, and why a copy doesn't exist: what private contracts cite.
-use Rattle.std.specs.Prelude.{◌≡◌, ◌<◌, ◌^◌, length, ℕ, List, replicate}
+use Rattle.std.specs.Prelude.{◌≡◌, ◌<◌, ◌^◌, ◌↔◌, length, ℕ, List, replicate, Option, Bool, IsTrue}
 use Rattle.byteorder.specs.Endian.{little_bytes}
 use Rattle.pt_sum.specs.Sums.{crc_of}
 use Rattle.pt_gpt.specs.inner.Entries.{put_at}
+use Rattle.pt_gpt.specs.Copies.{AreEntries}
+use Rattle.pt_gpt.specs.declared.entry.Entry.{Entry}
 use Rattle.pt_gpt.specs.declared.header.Header.{Header}
+use Rattle.pt_gpt.specs.declared.table.Table.{Table}
 
 -- with zeros in place of the CRC
 unfoldable pub unsummed_from : Header → List ℕ → List ℕ
@@ -35,3 +38,11 @@ pub record HeaderFits (h : Header) : Type 0 where
   pub count : h.count < 2 ^ 32
   pub entry_size : h.entry_size < 2 ^ 32
   pub array_crc : h.array_crc < 2 ^ 32
+
+-- the bytes are some entries: whether they are these
+abbrev pub HaveEntries : List ℕ → List (Option Entry) → Bool → Type 0
+HaveEntries bytes entries same = (es : List (Option Entry)) × AreEntries es bytes × (IsTrue same ↔ (es ≡ entries))
+
+-- a table has the header's DiskGUID and its usable sectors
+abbrev pub HasNumbers : Header → Table → Type 0
+HasNumbers h t = (h.disk ≡ t.disk) × (h.first ≡ t.first) × (h.last ≡ t.last)

@@ -1,7 +1,7 @@
 use Rattle.std.proofs.Common.{◌≡◌, ◌∙◌, ◌<◌, ℕ, List, [], length, get_or, ap, sym, arith, subst}
 use Rattle.std.proofs.lemmas.List.{get_or_default}
 use Rattle.pt_sector.specs.Sectors.{puts_as_writes, no_put, slot_at, IsAscending, IsWriteAt}
-use Rattle.pt_sector.specs.declared.put.Put.{Put}
+use Rattle.pt_sector.specs.declared.own.Put.{Put}
 use Rattle.pt_sector.proofs.InOrder.{value_of_one, value_of_none, none_in_gap, bytes-of-put, length-puts, rises_with, at_with, gap_with}
 use Rattle.pt_sector.proofs.own.Own.get.Goals as goal
 

@@ -4,7 +4,7 @@ use Rattle.std.specs.List.{insert}
 use Rattle.std.proofs.lemmas.List.{get_or_default}
 use Rattle.pt_sector.specs.Sectors.{written, puts_as_writes, no_put, slot_at, SlotsFit, SlotsApart, IsAscending, IsWriteAt}
 use Rattle.pt_sector.specs.inner.Sectors.{IsGapFor}
-use Rattle.pt_sector.specs.declared.put.Put.{Put}
+use Rattle.pt_sector.specs.declared.own.Put.{Put}
 use Rattle.pt_sector.proofs.InOrder.{put_over, put_between, order_between, none_in_gap, length-puts, rises_with, at_with, gap_with}
 use Rattle.pt_sector.proofs.InOrder.{fit_insert, apart_insert}
 use Rattle.pt_sector.proofs.own.Own.put.Goals as goal
