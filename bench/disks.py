@@ -69,11 +69,11 @@ def slice_label():
     return label(300, {letter: (30, 16 + 30 * k, 7) for k, letter in enumerate((0, 1, 3, 4, 5, 6, 7))})
 
 
-def labelled_gpt():
-    """A GPT of 128 slices, each with a label, and the label places."""
-    firsts = [1000 + APART * k for k in range(128)]
+def labelled_gpt(slices=128, entries=128):
+    """A GPT of so many slices, each with a label, and of so many entries; and the label places."""
+    firsts = [1000 + APART * k for k in range(slices)]
     image = SMALL.gpt(65536, {k + 1: entry(first, first + 299, FREEBSD, guid(k + 1), name=f"part {k + 1}")
-                              for k, first in enumerate(firsts)})
+                              for k, first in enumerate(firsts)}, count=entries)
     for first in firsts:
         SMALL.put(image, first + 1, slice_label())
     return image, [first + 1 for first in firsts]

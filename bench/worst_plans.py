@@ -60,9 +60,9 @@ def sealed(sector, at, content):
     return bytes(found)
 
 
-def with_other_alternate(image):
-    """Primary headers that differ in AlternateLBA, which no reading asks for."""
-    return lambda number: [(1, sealed(SMALL.sector(image, 1), 32, (number + 1).to_bytes(8, "little")))]
+def with_other_alternate(image, place=1):
+    """Headers that differ in AlternateLBA, which no reading asks for."""
+    return lambda number: [(place, sealed(SMALL.sector(image, place), 32, (number + 1).to_bytes(8, "little")))]
 
 
 def with_other_sum(image):
@@ -75,6 +75,26 @@ def with_other_sum(image):
     return write
 
 
+def number_of_entries(image):
+    return int.from_bytes(SMALL.sector(image, 1)[80:84], "little")
+
+
+def with_other_number(image, numbers):
+    """Primary headers that tell of other numbers of entries, one after the other, and have the CRC of none of these arrays."""
+    others = [it for it in numbers if it != number_of_entries(image)]
+    return lambda number: [(1, sealed(SMALL.sector(image, 1), 80, others[number % len(others)].to_bytes(4, "little")))]
+
+
+def in_turn_with_good(image, write):
+    """Each of these in turn with the primary header as it was."""
+    return lambda number: write(number // 2) if number % 2 == 0 else [(1, SMALL.sector(image, 1))]
+
+
+def first_one(first, write):
+    """These, behind the first of others."""
+    return lambda number: first(0) if number == 0 else write(number - 1)
+
+
 def two_elsewhere(image, places, write):
     """A phase of two writes of these sectors, as they stand, before each two of these."""
     same = [(place, SMALL.sector(image, place)) for place in places[:2]]
@@ -82,21 +102,31 @@ def two_elsewhere(image, places, write):
 
 
 def kinds_of_gpt(image, labels):
-    end = SMALL.count(image)
-    backup = range(end - 33, end - 1)
+    end, sectors = SMALL.count(image), -(-number_of_entries(image) // 4)
+    primary, backup = range(2, 2 + sectors), range(end - 33, end - 33 + sectors)
     yield "the disk signature of sector 0", scribbled(image, [0], 440)
     yield "unused bytes of the primary header", scribbled(image, [1], 92)
     yield "unused bytes of the backup header", scribbled(image, [end - 1], 92)
     yield "the last bytes of both headers", scribbled(image, [1, end - 1], 508)
     yield "the primary header, lost and found", lost_and_found(image, [1])
     yield "the backup header, lost and found", lost_and_found(image, [end - 1])
-    yield "the primary array, lost and found", lost_and_found(image, range(2, 34))
+    yield "the primary array, lost and found", lost_and_found(image, primary)
     yield "the backup array, lost and found", lost_and_found(image, backup)
     yield "sector 0, lost and found", lost_and_found(image, [0])
     yield "AlternateLBA of the primary header", with_other_alternate(image)
-    yield "names in the primary array", scribbled(image, range(2, 34), 56)
-    yield "both writes in the backup / the primary array", two_elsewhere(image, backup, lost_and_found(image, range(2, 34)))
-    if SMALL.sector(image, 33)[-128:] == bytes(128):
+    yield "names in the primary array", scribbled(image, primary, 56)
+    yield "both writes in the backup / the primary array", two_elsewhere(image, backup, lost_and_found(image, primary))
+    alternate = with_other_alternate(image, end - 1)
+    yield "AlternateLBA of the backup header, the primary one zeroed", first_one(lost_and_found(image, [1]), alternate)
+    few, all_numbers = [128, 127, 5, 1], list(range(1, 129))
+    yield "headers of 128, 127, 5 and 1 entries", with_other_number(image, few)
+    yield "headers of more and more entries", with_other_number(image, all_numbers)
+    yield "headers of fewer and fewer entries", with_other_number(image, all_numbers[::-1])
+    yield "such headers and the good one", in_turn_with_good(image, with_other_number(image, all_numbers))
+    yield "such a header, and AlternateLBA of the backup header", first_one(with_other_number(image, few), alternate)
+    names = scribbled(image, range(2, 34), 56)
+    yield "such a header, and names in the sectors of 128 entries", first_one(with_other_number(image, few), names)
+    if number_of_entries(image) == 128 and SMALL.sector(image, 33)[-128:] == bytes(128):
         yield "an unused entry and the sum of the array", with_other_sum(image)
     yield "names in the backup array", scribbled(image, backup, 56)
     yield "attributes in the backup array", scribbled(image, backup, 48)
@@ -119,9 +149,12 @@ def kinds_of_mbr(image, heads, labels):
 
 def disks():
     """(title, image, its sectors of the table, kinds)"""
-    one, (slices, places) = SMALL.gpt(SECTORS, {1: entry(2048, 4095)}), labelled_gpt()
-    for title, image, labels in (("GPT, 1 partition", one, []), ("GPT, 128 partitions", full_gpt(), []),
-                                 ("GPT, 128 labelled slices", slices, places)):
+    one = SMALL.gpt(SECTORS, {1: entry(2048, 4095)})
+    for title, (image, labels) in (("GPT, 1 partition", (one, [])), ("GPT, 128 partitions", (full_gpt(), [])),
+                                   ("GPT, 128 labelled slices", labelled_gpt()), ("GPT, 3 labelled slices", labelled_gpt(3)),
+                                   ("GPT, 100 labelled, 100 entries", labelled_gpt(100, 100)),
+                                   ("GPT, 127 labelled, 127 entries", labelled_gpt(127, 127)),
+                                   ("GPT, 4 labelled, 4 entries", labelled_gpt(4, 4))):
         yield title, image, [1, SECTORS - 1, *labels], kinds_of_gpt(image, labels)
     mbr, chain, (logicals, heads) = SMALL.mbr(SECTORS, [record(0x83, 2048, 2048)]), long_chain(128), labelled_chain()
     of_chain = [10 + 2 * k for k in range(128)]
@@ -172,16 +205,16 @@ class Search:
         many = self.cost(image, writes, FEW)
         if many is None:
             # as in turn, where the one writes what the other has recovery read
-            print(f"{title:27} {name:60.60} refused", flush=True)
+            print(f"{title:31} {name:60.60} refused", flush=True)
             return 0, title, image, name, writes
-        print(f"{title:27} {name:60.60} {many / 1e6:8.2f} {many / harmless:6.2f}", flush=True)
+        print(f"{title:31} {name:60.60} {many / 1e6:8.2f} {many / harmless:6.2f}", flush=True)
         return many / harmless, title, image, name, writes
 
     def worst_of(self, title, image, places, kinds):
         """The worst kind on a disk."""
         same = [(place, SMALL.sector(image, place)) for place in places]
         harmless = self.cost(image, harmless_of(same), FEW)
-        print(f"{title:27} {'what stands there':60} {harmless / 1e6:8.2f} {1:6.2f}", flush=True)
+        print(f"{title:31} {'what stands there':60} {harmless / 1e6:8.2f} {1:6.2f}", flush=True)
         found = sorted((self.tried(title, image, *kind, harmless) for kind in kinds), key=lambda it: -it[0])
         for (_, _, _, one, first), (_, _, _, other, second) in itertools.combinations(found[:MIXED], 2):
             found.append(self.tried(title, image, f"{one} / {other}", in_turn(first, second), harmless))

@@ -1,8 +1,9 @@
 #!/usr/bin/env python3
 """Long plans that harm and mend the copies of a GPT again and again, drawn by a fixed seed. `check` answers each as a plain version does,
 which recovers the whole disk after each phase. After some recoveries `check` follows the copies write by write, so the two are held
-together: with headers and arrays that are lost and found, that change with their sums right, and with other bytes of the same sum; on both
-sides, in sectors of 512 and 4096 bytes, with tables of 128 entries and of fewer, and with labels.
+together: with headers and arrays that are lost and found, that change with their sums right, and with other bytes of the same sum; with
+headers that tell of another number of entries than the table has; on both sides, in sectors of 512 and 4096 bytes, with tables of 128
+entries and of fewer, and with labels.
 
 usage: tests/failures/long_plans.py PTAB DOUBLES [COUNT]     COUNT plans of each disk, else 60
 """
@@ -30,6 +31,8 @@ class Copy:
         self.header = 1 if side == "primary" else count - 1
         first = 2 if side == "primary" else count - sectors.array - 1
         self.array = range(first, first + -(-entries * 128 // sectors.size))
+        # the sectors of the most entries that a header may tell of
+        self.all = range(first, first + sectors.array)
 
     def array_of(self, image):
         return b"".join(self.sectors.sector(image, at) for at in self.array)[:self.entries * 128]
@@ -89,6 +92,12 @@ class Disk:
         primary, backup = (it.table(image) for it in self.copies)
         return primary == self.wanted or (primary is None and backup == self.wanted)
 
+    def other_number(self, draw, image, copy):
+        """A header that tells of another number of entries, mostly with the CRC of none."""
+        number = draw.choice([copy.entries - 1, copy.entries + 1, 1, 5, 127, 128, 129, draw.randrange(1, 129)])
+        head = sealed(self.sectors.sector(image, copy.header), 80, number.to_bytes(4, "little"))
+        return head if draw.randrange(6) else sealed(head, 88, draw.randbytes(4))
+
     def header_write(self, draw, image, copy):
         now = self.sectors.sector(image, copy.header)
         return draw.choice([
@@ -96,13 +105,13 @@ class Disk:
             lambda: self.sectors.sector(self.image, copy.header),
             lambda: sealed(now, 32, draw.randbytes(8)),
             lambda: sealed(now, 12, draw.choice([92, 96, 512, 91]).to_bytes(4, "little")),
-            lambda: sealed(now, 80, draw.choice([copy.entries - 1, 1, 128, 129]).to_bytes(4, "little")),
+            lambda: self.other_number(draw, image, copy),
             lambda: sealed(now, 88, zlib.crc32(copy.array_of(image)).to_bytes(4, "little")),
             lambda: now[:92 + draw.randrange(8)] + draw.randbytes(1) + now[100:] + bytes(7),
         ])()[:self.sectors.size].ljust(self.sectors.size, b"\0")
 
     def array_write(self, draw, image, copy):
-        at = draw.choice(copy.array)
+        at = draw.choice(copy.array if draw.randrange(4) else copy.all)
         now, first = self.sectors.sector(image, at), self.sectors.sector(self.image, at)
         place = draw.randrange(0, self.sectors.size - 64, 8)
         junk = now[:place] + draw.randbytes(8) + now[place + 8:]
@@ -130,10 +139,24 @@ class Disk:
             return [self.array_write(draw, image, self.copies[1]) for _ in range(2)]
         return [self.array_write(draw, image, copy)]
 
+    def numbers(self, draw, image):
+        """One write of a primary header of some number of entries, of the good one, or of the array."""
+        copy = self.copies[0]
+        kind = draw.randrange(4)
+        if kind == 0:
+            return [self.array_write(draw, image, copy)]
+        return [(copy.header, self.sectors.sector(self.image, copy.header) if kind == 1 else self.other_number(draw, image, copy))]
+
     def plan(self, draw):
         image, phases = bytearray(self.image), []
+        # each third plan is about numbers of entries; each sixth begins with a header of another one
+        kind = draw.randrange(6)
         while len(phases) < PHASES:
-            writes, after = self.writes(draw, image), bytearray(image)
+            if kind == 0 and not phases:
+                writes = [(self.copies[0].header, self.other_number(draw, image, self.copies[0]))]
+            else:
+                writes = (self.numbers if kind < 2 else self.writes)(draw, image)
+            after = bytearray(image)
             for at, content in writes:
                 self.sectors.put(after, at, content)
             if draw.randrange(WILD) == 0 or self.is_kept(after):
@@ -151,6 +174,8 @@ def disks():
     full = {k + 1: entry(60 + k, 60 + k, unique=guid(k + 1)) for k in range(126)}
     yield Disk("GPT, 126 entries", SMALL, SMALL.gpt(240, full, count=126), 126)
     yield Disk("GPT, 5 entries", SMALL, SMALL.gpt(220, one, count=5), 5)
+    yield Disk("GPT, 100 entries", SMALL, SMALL.gpt(220, one, count=100), 100)
+    yield Disk("GPT, 4 entries", SMALL, SMALL.gpt(220, one, count=4), 4)
     slices = {k + 1: entry(60 + 20 * k, 79 + 20 * k, FREEBSD, guid(k + 1)) for k in range(4)}
     image = SMALL.gpt(220, slices)
     for k in range(4):

@@ -3,14 +3,15 @@ use Rattle.std.specs.Prelude.{◌≡◌, ◌≢◌, ◌<◌, ◌≤◌, ◌⊎�
 use Rattle.std.specs.Prelude.{[], slice_index_or, Option, None}
 use Rattle.std.proofs.Common.{refl, sym, ap, ◌∙◌, subst, arith, inl, inr, min, append_assoc, length-append}
 use Rattle.std.proofs.lemmas.Bool.{cases_lt}
-use Rattle.std.proofs.lemmas.List.{append-nil, take-append-le, drop-append-le, take-append-drop, length-drop}
+use Rattle.std.proofs.lemmas.List.{append-nil, take-take, take-append-le, drop-append-le, take-append-drop, length-drop}
 use Rattle.std.proofs.lemmas.List.{length-take, length-take-le, take_all, drop_all, take_at, drop_at}
 use Rattle.std.proofs.Math.Seq.{take-append-add, drop-append-add}
 use Rattle.pt_sector.specs.Sectors.{Sectors, sector, IsSectorSize}
 use Rattle.pt_gpt.specs.Copies.{bytes_from, counted}
 use Rattle.pt_gpt.specs.Entries.{EntryIs}
 use Rattle.pt_gpt.specs.declared.entry.Entry.{Entry}
-use Rattle.pt_follow.specs.inner.Follow.{SectorHas, entries_with}
+use Rattle.pt_follow.specs.Follow.{SectorHas}
+use Rattle.pt_follow.specs.inner.Follow.{entries_with, range_of}
 
 pub bytes_same : (c d : Sectors) (at n : ℕ) → ((i : ℕ) → i < n → sector c (at + i) ≡ sector d (at + i))
     → bytes_from c at n ≡ bytes_from d at n
@@ -40,6 +41,10 @@ bytes_split d at k (suc n) =
     let place : at + (k + n) ≡ at + k + n = omega arith in
     rw (e, place) (ap (λ (t : List ℕ). t ++ sector d (at + k + n)) (bytes_split d at k n)
     ∙ append_assoc (bytes_from d at k) (bytes_from d (at + k) n) (sector d (at + k + n)))
+
+pub bytes_next : (d : Sectors) (at k : ℕ) → bytes_from d at (k + 1) ≡ bytes_from d at k ++ sector d (at + k)
+unfolding bytes_from
+bytes_next d at k = let e : k + 1 ≡ suc k = omega arith in rw e refl
 
 bytes_one : (d : Sectors) (at : ℕ) → bytes_from d at 1 ≡ sector d at
 unfolding bytes_from
@@ -80,6 +85,15 @@ drop_taken m b s r long = elim (cases_le m b) [
   | inr high ↦ let whole = take_all m s (omega (arith, long)) in rw whole (drop_at s (take (m - b) r) b long)
 ]
 
+-- the part that is taken of a sector
+take_taken : (m b : ℕ) (s r : List ℕ) → length s ≡ b → take b (take m s ++ take (m - b) r) ≡ take m s
+take_taken m b s r long = elim (cases_le m b) [
+  | inl low ↦
+      let none : m - b ≡ 0 = omega arith in
+      rw none (ap (λ (t : List ℕ). take b t) (append-nil (take m s)) ∙ take_all b (take m s) (omega (arith, length-take m s)))
+  | inr high ↦ let whole = take_all m s (omega (arith, long)) in rw whole (take_at s (take (m - b) r) b long)
+]
+
 -- nothing stands behind a part that is shorter than a sector
 pub drop_past : (x : List ℕ) (at b taken : ℕ) → taken ≡ min (length x - at) b → at ≤ length x → drop (at + taken) x ≡ drop (at + b) x
 drop_past x at b taken is within = elim (cases_le (length x - at) b) [
@@ -93,9 +107,18 @@ pub sector_low : (b count k : ℕ) → IsSectorSize b → k < counted b count �
 sector_low b count k (inl e) lt = let h = rw e at lt in rw e (omega arith)
 sector_low b count k (inr e) lt = let h = rw e at lt in rw e (omega arith)
 
+pub counted_more : (b few count : ℕ) → IsSectorSize b → few ≤ count → counted b few ≤ counted b count
+counted_more b few count (inl e) le = rw e (omega arith)
+counted_more b few count (inr e) le = rw e (omega arith)
+
 pub all_fit : (b count : ℕ) → IsSectorSize b → count * 128 ≤ counted b count * b
 all_fit b count (inl e) = rw e (omega arith)
 all_fit b count (inr e) = rw e (omega arith)
+
+-- sectors that the entries fill are among theirs
+pub filled : (b count k : ℕ) → IsSectorSize b → k * b ≤ count * 128 → k ≤ counted b count
+filled b count k (inl e) fit = let h = rw e at fit in rw e (omega arith)
+filled b count k (inr e) fit = let h = rw e at fit in rw e (omega arith)
 
 -- what follows of entry i of sector k
 record Numbers (b count k i : ℕ) : Type 0 where
@@ -165,6 +188,50 @@ behind_same b c d at count k same =
 pub array_long : (b : ℕ) (d : Sectors) (at count : ℕ) → IsSectorSize b → IsWhole b d at count → length (array_at b d at count) ≡ count * 128
 array_long b d at count size whole =
     length-take-le _ _ (omega (arith, bytes_long b d at (counted b count) whole, all_fit b count size))
+
+-- the entries' bytes that lie in sector k
+pub range_at : (b : ℕ) (d : Sectors) (at count k : ℕ) → IsSectorSize b → IsWhole b d at count → k < counted b count
+    → range_of b (array_at b d at count) k ≡ take (count * 128 - k * b) (sector d (at + k))
+range_at b d at count k size whole lt =
+    let x = bytes_from d at k in
+    let s = sector d (at + k) in
+    let m = count * 128 - k * b in
+    let long : length x ≡ k * b = bytes_long b d at k (λ i low. whole i (omega arith)) in
+    let width : k * b + b - k * b ≡ b = omega arith in
+    ap (λ (z : List ℕ). range_of b z k) (parted b d at count k size whole lt)
+    ∙ ap (λ (n : ℕ). take n (drop (k * b) (x ++ (take m s ++ behind b d at count k)))) width
+    ∙ ap (λ (z : List ℕ). take b z) (drop_at x (take m s ++ behind b d at count k) (k * b) long)
+    ∙ take_taken m b s (bytes_from d (at + k + 1) (counted b count - (k + 1))) (whole k lt)
+
+-- ## The first of an array's entries.
+
+-- what is taken of whole sectors, of as many as the entries lie in
+pub first_entries : (b : ℕ) (d : Sectors) (at few count : ℕ) → IsSectorSize b → IsWhole b d at count → few ≤ count
+    → take (few * 128) (array_at b d at count) ≡ array_at b d at few
+first_entries b d at few count size whole le =
+    let m = counted b few in
+    let n = counted b count in
+    let more = counted_more b few count size le in
+    let rest = bytes_from d (at + m) (n - m) in
+    let all : n ≡ m + (n - m) = omega (arith, more) in
+    let long : length (bytes_from d at m) ≡ m * b = bytes_long b d at m (λ i low. whole i (omega (arith, low, more))) in
+    take-take (few * 128) (count * 128) (bytes_from d at n) (omega (arith, le))
+    ∙ ap (λ (k : ℕ). take (few * 128) (bytes_from d at k)) all
+    ∙ ap (λ (t : List ℕ). take (few * 128) t) (bytes_split d at m (n - m))
+    ∙ take-append-le (few * 128) (bytes_from d at m) rest (omega (arith, long, all_fit b few size))
+
+-- so many sectors, which the entries fill
+pub first_sectors : (b : ℕ) (d : Sectors) (at count k : ℕ) → IsSectorSize b → IsWhole b d at count → k * b ≤ count * 128
+    → take (k * b) (array_at b d at count) ≡ bytes_from d at k
+first_sectors b d at count k size whole fit =
+    let n = counted b count in
+    let within = filled b count k size fit in
+    let all : n ≡ k + (n - k) = omega (arith, within) in
+    let long : length (bytes_from d at k) ≡ k * b = bytes_long b d at k (λ i low. whole i (omega (arith, low, within))) in
+    take-take (k * b) (count * 128) (bytes_from d at n) fit
+    ∙ ap (λ (m : ℕ). take (k * b) (bytes_from d at m)) all
+    ∙ ap (λ (t : List ℕ). take (k * b) t) (bytes_split d at k (n - k))
+    ∙ take_at (bytes_from d at k) (bytes_from d (at + k) (n - k)) (k * b) long
 
 -- the entries' bytes with other ones in sector k
 pub parted_with : (b : ℕ) (d : Sectors) (at count k : ℕ) (y : List ℕ) → IsSectorSize b → IsWhole b d at count → k < counted b count
@@ -242,10 +309,3 @@ in_array b d at es k size whole lt has j within at_k =
     let here = has i low inside in
     subst (λ (z : ℕ). EntryIs (slice_index_or es z None) (slice_range (array_at b d at (length es)) (z * 128) (z * 128 + 128))) is
     (subst (λ (t : List ℕ). EntryIs (slice_index_or es (k * q + i) None) t) (sym e) here)
-
-pub in_sector : (b : ℕ) (d : Sectors) (at : ℕ) (es : List (Option Entry)) (k : ℕ) → IsSectorSize b → IsWhole b d at (length es)
-    → k < counted b (length es) → ArrayHas b d at es k → SectorHas b es k (sector d (at + k))
-in_sector b d at es k size whole lt has i low within =
-    let n = numbers_of b (length es) k i size low within in
-    subst (λ (t : List ℕ). EntryIs (slice_index_or es (k * (b / 128) + i) None) t)
-    (entry_range b d at (length es) k i size whole lt low within) (has (k * (b / 128) + i) within n.back)

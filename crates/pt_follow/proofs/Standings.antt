@@ -12,8 +12,8 @@ use Rattle.pt_gpt.specs.declared.table.Table.{Table}
 use Rattle.pt_follow.specs.declared.copy.FollowedCopy.{FollowedCopy}
 use Rattle.pt_follow.specs.declared.standing.Standing.TheVariants.{Gives, LostHead, LostArray}
 use Rattle.pt_follow.specs.Follow.{Follows, HeadIs, InCopy, StandingIs, entries_at}
-use Rattle.pt_follow.specs.inner.Follow.{AllTrue, IsOf}
-use Rattle.pt_follow.proofs.Splits.{array_long, sector_of_entry}
+use Rattle.pt_follow.specs.inner.Follow.{AreSet, IsOf}
+use Rattle.pt_follow.proofs.Splits.{array_long, counted_more, in_array, sector_of_entry}
 
 -- the side's header, where one stands
 head_at : (b : ℕ) (d : Sectors) (side : Side) (t : Table) (c : FollowedCopy) (h : Header) → Follows b d side t c → c.head ≡ Some h
@@ -43,63 +43,60 @@ lost_head b d side t c f is =
       λ s. (λ r. elim r [ inl here ↦ here | inr within ↦ absurd (none within.0 within.1) ], λ here. inl here),
     )
 
--- the header that stands there, of as many entries as are followed
-record Head (b : ℕ) (d : Sectors) (side : Side) (t : Table) (c : FollowedCopy) (h : Header) : Type 0 where
-  follows : Follows b d side t c
-  stands : IsHead b d side h
-  count : h.count ≡ length t.entries
-
-head_of : (b : ℕ) (d : Sectors) (side : Side) (t : Table) (c : FollowedCopy) (h : Header) → Follows b d side t c → c.head ≡ Some h
-    → h.count ≡ c.count → Head b d side t c h
-head_of b d side t c h f is count = record { follows = f; stands = head_at b d side t c h f is; count = count ∙ f.count }
-
-crc_is : (b : ℕ) (d : Sectors) (side : Side) (t : Table) (c : FollowedCopy) (h : Header) → Head b d side t c h
-    → c.sum ≡ crc_of (array_of b d h)
-crc_is b d side t c h at = at.follows.sum ∙ ap crc_of (sym (same_array b d side (length t.entries) h at.stands at.count))
+-- the sum of the entries that the header tells of
+crc_is : (b : ℕ) (d : Sectors) (side : Side) (h : Header) (sum : ℕ) → IsHead b d side h → sum ≡ crc_of (entries_at b d side h.count)
+    → sum ≡ crc_of (array_of b d h)
+crc_is b d side h sum head is = is ∙ ap crc_of (sym (same_array b d side h.count h head refl))
 
 -- its array has another CRC
-pub lost_array : (b : ℕ) (d : Sectors) (side : Side) (t : Table) (c : FollowedCopy) (h : Header) → Follows b d side t c → c.head ≡ Some h
-    → h.count ≡ c.count → h.array_crc ≢ c.sum → StandingIs b d side t LostArray
-lost_array b d side t c h f is count other =
-    let at = head_of b d side t c h f is count in (
+pub lost_array : (b : ℕ) (d : Sectors) (side : Side) (t : Table) (c : FollowedCopy) (h : Header) (sum : ℕ) → Follows b d side t c
+    → c.head ≡ Some h → sum ≡ crc_of (entries_at b d side h.count) → h.array_crc ≢ sum → StandingIs b d side t (LostArray h.count)
+lost_array b d side t c h sum f is now other =
+    let head = head_at b d side t c h f is in (
       λ u copy.
-          let same = head_is_one_lem b d side copy.head h copy.stands.is_head at.stands in
+          let same = head_is_one_lem b d side copy.head h copy.stands.is_head head in
           let crc = subst (λ (k : Header). HasArrayCrc b d k) same copy.stands.crc in
-          other (crc ∙ sym (crc_is b d side t c h at)),
-      reads_array b d side (length t.entries) h at.stands at.count,
+          other (crc ∙ sym (crc_is b d side h sum head now)),
+      reads_array b d side h.count h head refl,
     )
 
-entries_are : (b : ℕ) (d : Sectors) (side : Side) (t : Table) (c : FollowedCopy) (h : Header) → IsSectorSize b → Head b d side t c h
-    → AllTrue c.same.items → AreEntries t.entries (array_of b d h)
-entries_are b d side t c h size at flags =
-    let f = at.follows in
+entries_are : (b : ℕ) (d : Sectors) (side : Side) (t : Table) (c : FollowedCopy) (h : Header) → IsSectorSize b → Follows b d side t c
+    → IsHead b d side h → h.count ≤ c.known → h.count ≡ length t.entries → AreSet c.same.items (counted b h.count)
+    → AreEntries t.entries (array_of b d h)
+entries_are b d side t c h size f head known count flags =
     let n = length t.entries in
     let place = array_place b side (length d) in
+    let within = counted_more b n c.known size (rw count at known) in
+    let whole = λ (k : ℕ) (lt : k < counted b n). f.whole k (omega (arith, lt, within)) in
     let are : AreEntries t.entries (entries_at b d side n) = record {
-      count = array_long b d place n size f.whole;
+      count = array_long b d place n size whole;
       each = λ j lt.
+          let k = j / (b / 128) in
           let low = sector_of_entry b n j size lt in
-          (f.same (j / (b / 128)) low).0 (flags (j / (b / 128)) (omega (arith, f.flags, low))) j lt refl;
+          let has = (f.same k (omega (arith, low, within))).0 (flags k (rw count low)) in
+          in_array b d place t.entries k size whole low has j lt refl;
     } in
-    subst (λ (x : List ℕ). AreEntries t.entries x) (sym (same_array b d side n h at.stands at.count)) are
+    subst (λ (x : List ℕ). AreEntries t.entries x) (sym (same_array b d side n h head count)) are
 
 -- it is a copy of the table
-pub gives : (b : ℕ) (d : Sectors) (side : Side) (t : Table) (c : FollowedCopy) (h : Header) → IsSectorSize b → Follows b d side t c
-    → c.head ≡ Some h → h.count ≡ c.count → h.array_crc ≡ c.sum → IsOf h t → AllTrue c.same.items → StandingIs b d side t Gives
-gives b d side t c h size f is count sum of_table flags =
-    let at = head_of b d side t c h f is count in (
+pub gives : (b : ℕ) (d : Sectors) (side : Side) (t : Table) (c : FollowedCopy) (h : Header) (sum : ℕ) → IsSectorSize b
+    → Follows b d side t c → c.head ≡ Some h → h.count ≤ c.known → h.count ≡ length t.entries
+    → sum ≡ crc_of (entries_at b d side h.count) → h.array_crc ≡ sum → IsOf h t → AreSet c.same.items (counted b h.count)
+    → StandingIs b d side t Gives
+gives b d side t c h sum size f is known count now same of_table flags =
+    let head = head_at b d side t c h f is in (
       record {
         room = f.room;
         head = h;
         stands = record {
-          is_head = at.stands;
-          crc = sum ∙ crc_is b d side t c h at;
+          is_head = head;
+          crc = same ∙ crc_is b d side h sum head now;
           disk = sym of_table.0;
           first = sym of_table.1;
           last = sym of_table.2;
-          count = sym at.count;
-          entries = entries_are b d side t c h size at flags;
+          count = sym count;
+          entries = entries_are b d side t c h size f head known count flags;
         };
       },
-      reads_array b d side (length t.entries) h at.stands at.count,
+      reads_array b d side (length t.entries) h head count,
     )

@@ -1,5 +1,5 @@
 -- What a write of a sector does to a copy that is followed.
-use Rattle.std.specs.Prelude.{◌≡◌, ◌≢◌, ◌<◌, ◌≤◌, ◌↔◌, ℕ, ◌+◌, ◌-◌, ◌*◌, List, ◌++◌, length, take, slice_range, slice_index_or, slice_set}
+use Rattle.std.specs.Prelude.{◌≡◌, ◌≢◌, ◌<◌, ◌≤◌, ◌↔◌, ℕ, ◌+◌, ◌-◌, ◌*◌, List, ◌++◌, length, take, slice_index_or, slice_set}
 use Rattle.std.specs.Prelude.{Option, Some, None, IsTrue, false}
 use Rattle.std.proofs.Common.{sym, ap, ◌∙◌, subst, arith, inl, inr}
 use Rattle.std.proofs.lemmas.Bool.{cases_eq}
@@ -7,28 +7,21 @@ use Rattle.std.proofs.lemmas.List.{get_or-set_same, get_or-set_other, length-set
 use Rattle.pt_sum.specs.Sums.{crc_of}
 use Rattle.pt_sector.specs.Sectors.{Sectors, sector, IsSectorSize}
 use Rattle.pt_gpt.specs.Copies.{HasRoom, counted, header_place, header_sector, array_place, HeaderBytes, IsPlaced, IsHead, bytes_from}
-use Rattle.pt_gpt.specs.Entries.{EntryIs}
 use Rattle.pt_gpt.specs.declared.header.Header.{Header}
 use Rattle.pt_gpt.specs.declared.table.Side.{Side}
 use Rattle.pt_gpt.specs.declared.table.Side.TheVariants.{Primary, Backup}
 use Rattle.pt_gpt.specs.declared.table.Table.{Table}
 use Rattle.pt_follow.specs.declared.copy.FollowedCopy.{FollowedCopy}
-use Rattle.pt_follow.specs.Follow.{Follows, HeadIs, entries_at, HasEntries}
-use Rattle.pt_follow.specs.inner.Follow.{HeadOf, InArrayOf, IsShaped, SectorHas, WritesPart, entries_with}
-use Rattle.pt_follow.proofs.Splits.{bytes_same, IsWhole, array_at, array_long, behind, parted, parted_with, behind_same, in_array}
-use Rattle.pt_follow.proofs.Splits.{in_sector}
+use Rattle.pt_follow.specs.Follow.{Follows, HeadIs, SectorHas, entries_at, part_at, sector_in}
+use Rattle.pt_follow.specs.inner.Follow.{HeadOf, InArrayOf, IsShaped, WritesPart, entries_with, range_of}
+use Rattle.pt_follow.proofs.Splits.{bytes_same, IsWhole, array_at, array_long, behind, parted, parted_with, behind_same, range_at}
 
 -- a copy that is followed has the numbers of one
 pub shaped : (b : ℕ) (d : Sectors) (side : Side) (t : Table) (f : FollowedCopy) → IsSectorSize b → Follows b d side t f → IsShaped b f
-shaped b d side t f size is =
-    let n = length t.entries in (
-      rw is.sectors is.room,
-      (
-        omega (arith, is.count, is.few),
-        ap (λ (x : List ℕ). length x) is.bytes ∙ array_long b d (array_place b side (length d)) n size is.whole
-            ∙ ap (λ (m : ℕ). m * 128) (sym is.count),
-      ),
-    )
+shaped b d side t f size is = (
+  rw is.sectors is.room,
+  (is.few, (ap (λ (x : List ℕ). length x) is.bytes ∙ array_long b d (array_place b side (length d)) f.known size is.whole, is.parts)),
+)
 
 -- ## The header.
 
@@ -76,38 +69,35 @@ entries_same b c d side n same =
     ap (λ (m : ℕ). take (n * 128) (bytes_from c (array_place b side m) (counted b n))) same.count
     ∙ ap (λ (x : List ℕ). take (n * 128) x) (bytes_same c d (array_place b side (length d)) (counted b n) same.each)
 
-entries_over : (b : ℕ) (c d : Sectors) (side : Side) (t : Table) (k : ℕ) → entries_at b c side (length t.entries) ≡ entries_at b d side
-    (length t.entries) → HasEntries b d side t k → HasEntries b c side t k
-entries_over b c d side t k same has j low at =
-    subst (λ (x : List ℕ). EntryIs (slice_index_or t.entries j None) (slice_range x (j * 128) (j * 128 + 128))) (sym same) (has j low at)
+-- and its sectors
+sector_same : (b : ℕ) (c d : Sectors) (side : Side) (n k : ℕ) → SameArray b c d side n → k < counted b n
+    → sector_in b c side k ≡ sector_in b d side k
+sector_same b c d side n k same lt = ap (λ (m : ℕ). sector c (array_place b side m + k)) same.count ∙ same.each k lt
 
 -- the copy with another header
 abbrev pub with_head : FollowedCopy → Option Header → FollowedCopy
-with_head f o = record { side = f.side; sectors = f.sectors; count = f.count; head = o; bytes = f.bytes; sum = f.sum; same = f.same }
+with_head f o = record f { head = o }
 
 pub follows_on : (b : ℕ) (c d : Sectors) (side : Side) (t : Table) (f : FollowedCopy) (o : Option Header) → Follows b d side t f
-    → SameArray b c d side (length t.entries) → HeadIs b c side o → Follows b c side t (with_head f o)
+    → SameArray b c d side f.known → HeadIs b c side o → Follows b c side t (with_head f o)
 follows_on b c d side t f o is same head =
-    let n = length t.entries in
+    let n = f.known in
+    let at = λ (k : ℕ) (lt : k < counted b n). sector_same b c d side n k same lt in
     let bytes = entries_same b c d side n same in
     record {
       room = rw same.count is.room;
       sectors = is.sectors ∙ sym same.count;
       of_side = is.of_side;
-      some = is.some;
       few = is.few;
-      count = is.count;
-      whole = λ k lt.
-          ap (λ (m : ℕ). length (sector c (array_place b side m + k))) same.count
-          ∙ ap (λ (x : List ℕ). length x) (same.each k lt) ∙ is.whole k lt;
+      whole = λ k lt. ap (λ (x : List ℕ). length x) (at k lt) ∙ is.whole k lt;
       head = head;
       bytes = is.bytes ∙ sym bytes;
       sum = is.sum ∙ ap crc_of (sym bytes);
+      parts = is.parts;
+      sums = λ k lt. is.sums k lt ∙ ap (λ (x : List ℕ). crc_of (take (n * 128 - k * b) x)) (sym (at k lt));
       flags = is.flags;
-      same = λ k lt. (
-        λ set. entries_over b c d side t k bytes ((is.same k lt).0 set),
-        λ has. (is.same k lt).1 (entries_over b d c side t k (sym bytes) has),
-      );
+      same = λ k lt.
+          subst (λ (x : List ℕ). IsTrue (slice_index_or f.same.items k false) ↔ SectorHas b t.entries k x) (sym (at k lt)) (is.same k lt);
     }
 
 -- ## A disk after a write.
@@ -135,8 +125,7 @@ follows_header b d side t f o a y size is low at head =
     sym (get_or-set_same d a y _ low) ∙ ap (λ (m : ℕ). sector c m) (place ∙ ap (λ (m : ℕ). header_place side m) (sym count)) in
     let now = subst (λ (x : Side). HeadOf b f.sectors x y o) is.of_side head in
     follows_on b c d side t f o is
-    (array_kept b d side (length t.entries) a y (λ k lt here. not_header b side (length d) (length t.entries) k size is.room is.few lt
-    (here ∙ place)))
+    (array_kept b d side f.known a y (λ k lt here. not_header b side (length d) f.known k size is.room is.few lt (here ∙ place)))
     (head_is b f.sectors c side y o now (is.sectors ∙ sym count) there)
 
 -- a write of a sector that isn't of the copy
@@ -150,21 +139,30 @@ follows_outside b d side t f a y is other outside =
     ap (λ (x : Side). header_place x f.sectors) is.of_side ∙ ap (λ (m : ℕ). header_place side m) is.sectors in
     let array : array_place b f.side f.sectors ≡ array_place b side n =
     ap (λ (x : Side). array_place b x f.sectors) is.of_side ∙ ap (λ (m : ℕ). array_place b side m) is.sectors in
-    let long : counted b f.count ≡ counted b (length t.entries) = ap (λ (m : ℕ). counted b m) is.count in
     let there : header_sector c side ≡ header_sector d side =
     ap (λ (m : ℕ). sector c (header_place side m)) count
     ∙ other_sector d a (header_place side n) y (λ e. other (sym e ∙ sym header)) in
     follows_on b c d side t f f.head is
-    (array_kept b d side (length t.entries) a y (λ k lt here. outside (omega (arith, array, here), omega (arith, array, here, long, lt))))
+    (array_kept b d side f.known a y (λ k lt here. outside (omega (arith, array, here), omega (arith, array, here, lt))))
     (head_kept b c d side f.head count there is.head)
 
 -- ## A write of a sector of the array.
 
+-- what is known of so many entries
+record FollowsKnown (b : ℕ) (d : Sectors) (side : Side) (t : Table) (c : FollowedCopy) (n : ℕ) : Type 0 where
+  whole : (k : ℕ) → k < counted b n → length (sector_in b d side k) ≡ b
+  bytes : c.bytes.items ≡ entries_at b d side n
+  sum : c.sum ≡ crc_of (entries_at b d side n)
+  parts : length c.sums.items ≡ counted b n
+  sums : (k : ℕ) → k < counted b n → slice_index_or c.sums.items k 0 ≡ crc_of (part_at b d side n k)
+  flags : length c.same.items ≡ counted b n
+  same : (k : ℕ) → k < counted b n → IsTrue (slice_index_or c.same.items k false) ↔ SectorHas b t.entries k (sector_in b d side k)
+
 module _ (b : ℕ) (d : Sectors) (side : Side) (t : Table) (old new : FollowedCopy) (k : ℕ) (y : List ℕ) (size : IsSectorSize b)
     (is : Follows b d side t old) (low : array_place b side (length d) + k < length d)
-    (long : length y ≡ b) (lt : k < counted b (length t.entries)) (writes : WritesPart b t.entries k y old new) where
+    (long : length y ≡ b) (lt : k < counted b old.known) (writes : WritesPart b t.entries k y old new) where
   abbrev n : ℕ
-  n = length t.entries
+  n = old.known
 
   abbrev place : ℕ
   place = array_place b side (length d)
@@ -205,39 +203,43 @@ module _ (b : ℕ) (d : Sectors) (side : Side) (t : Table) (old new : FollowedCo
       ∙ sym at_place
 
   sum_now : new.sum ≡ crc_of (entries_at b c side n)
-  sum_now = writes.sum (is.sum ∙ ap crc_of (sym is.bytes)) ∙ ap crc_of bytes_new
+  sum_now =
+      let before : slice_index_or old.sums.items k 0 ≡ crc_of (range_of b old.bytes.items k) =
+      is.sums k lt ∙ ap crc_of (sym (ap (λ (x : List ℕ). range_of b x k) is.bytes ∙ range_at b d place n k size is.whole lt)) in
+      writes.sum (is.sum ∙ ap crc_of (sym is.bytes)) before ∙ ap crc_of bytes_new
 
-  -- a flag that tells of a sector's entries tells of the array's
-  flag_now : (i : ℕ) → i < counted b n → IsTrue (slice_index_or new.same.items i false) ↔ SectorHas b t.entries i (sector c (place + i))
-      → IsTrue (slice_index_or new.same.items i false) ↔ HasEntries b c side t i
-  flag_now i within flag = (
-    λ set j before at.
-        subst (λ (z : List ℕ). EntryIs (slice_index_or t.entries j None) (slice_range z (j * 128) (j * 128 + 128))) (sym at_place)
-        (in_array b c place t.entries i size whole within (flag.0 set) j before at),
-    λ has. flag.1 (in_sector b c place t.entries i size whole within (λ j before at.
-        subst (λ (z : List ℕ). EntryIs (slice_index_or t.entries j None) (slice_range z (j * 128) (j * 128 + 128))) at_place
-        (has j before at))),
-  )
+  -- sector i of the array, by its place on the disk as it was
+  at_now : (i : ℕ) → sector_in b c side i ≡ sector c (place + i)
+  at_now i = ap (λ (m : ℕ). sector c (array_place b side m + i)) count_same
 
-  flag_other : (i : ℕ) → i ≢ k → i < counted b n
-      → IsTrue (slice_index_or new.same.items i false) ↔ SectorHas b t.entries i (sector c (place + i))
-  flag_other i other within =
-      let flag = writes.others i other in
-      let same = others i other in
-      let before = is.same i within in
-      rw (flag, same) (
-        λ set. in_sector b d place t.entries i size is.whole within (before.0 set),
-        λ has. before.1 (in_array b d place t.entries i size is.whole within has),
-      )
+  sums_now : (i : ℕ) → i < counted b n → slice_index_or new.sums.items i 0 ≡ crc_of (part_at b c side n i)
+  sums_now i within =
+      let sum : ℕ = crc_of (take (n * 128 - k * b) y) in
+      let set = ap (λ (xs : List ℕ). slice_index_or xs i 0) writes.sums in
+      let there = at_now i in
+      rw there (set ∙ elim (cases_eq i k) as (λ _. slice_index_or (slice_set old.sums.items k sum) i 0
+      ≡ crc_of (take (n * 128 - i * b) (sector c (place + i)))) [
+        | inl same ↦
+            let e = get_or-set_same old.sums.items k sum 0 (omega (arith, is.parts, lt)) in
+            let h = here in
+            rw (same, h) e
+        | inr other ↦
+            get_or-set_other old.sums.items k i sum 0 other ∙ is.sums i within
+            ∙ ap (λ (x : List ℕ). crc_of (take (n * 128 - i * b) x)) (sym (others i other))
+      ])
 
-  flag_here : IsTrue (slice_index_or new.same.items k false) ↔ SectorHas b t.entries k (sector c (place + k))
-  flag_here = let e = here in rw e (writes.here (omega (arith, is.flags, lt)))
+  flag_at : (i : ℕ) → i < counted b n → IsTrue (slice_index_or new.same.items i false) ↔ SectorHas b t.entries i (sector c (place + i))
+  flag_at i within = elim (cases_eq i k) [
+    | inl same ↦ let e = here in rw (same, e) (writes.here (omega (arith, is.flags, lt)))
+    | inr other ↦
+        let flag = writes.others i other in
+        let there = others i other in
+        rw (flag, there) (is.same i within)
+  ]
 
-  flags_now : (i : ℕ) → i < counted b n → IsTrue (slice_index_or new.same.items i false) ↔ HasEntries b c side t i
-  flags_now i within = flag_now i within (elim (cases_eq i k) [
-    | inl same ↦ rw same flag_here
-    | inr other ↦ flag_other i other within
-  ])
+  flags_now : (i : ℕ) → i < counted b n → IsTrue (slice_index_or new.same.items i false) ↔ SectorHas b t.entries i (sector_in b c side i)
+  flags_now i within =
+      subst (λ (x : List ℕ). IsTrue (slice_index_or new.same.items i false) ↔ SectorHas b t.entries i x) (sym (at_now i)) (flag_at i within)
 
   head_now : HeadIs b c side new.head
   head_now =
@@ -247,21 +249,35 @@ module _ (b : ℕ) (d : Sectors) (side : Side) (t : Table) (old new : FollowedCo
       not_header b side (length d) n k size is.room is.few lt (sym e)) in
       subst (λ (o : Option Header). HeadIs b c side o) (sym writes.head) (head_kept b c d side old.head count_same there is.head)
 
-  pub follows_part : Follows b c side t new
-  follows_part = record {
-    room = rw count_same is.room;
-    sectors = writes.sectors ∙ is.sectors ∙ sym count_same;
-    of_side = writes.side ∙ is.of_side;
-    some = is.some;
-    few = is.few;
-    count = writes.count ∙ is.count;
-    whole = λ i within. ap (λ (m : ℕ). length (sector c (array_place b side m + i))) count_same ∙ whole i within;
-    head = head_now;
+  -- all of it, but for the number of entries, which is the same
+  follows_known : FollowsKnown b c side t new n
+  follows_known = record {
+    whole = λ i within. ap (λ (x : List ℕ). length x) (at_now i) ∙ whole i within;
     bytes = bytes_new;
     sum = sum_now;
+    parts = ap (λ (xs : List ℕ). length xs) writes.sums ∙ length-set old.sums.items k _ ∙ is.parts;
+    sums = sums_now;
     flags = writes.long ∙ is.flags;
     same = flags_now;
   }
+
+  pub follows_part : Follows b c side t new
+  follows_part =
+      let known = subst (λ (m : ℕ). FollowsKnown b c side t new m) (sym writes.known) follows_known in
+      record {
+        room = rw count_same is.room;
+        sectors = writes.sectors ∙ is.sectors ∙ sym count_same;
+        of_side = writes.side ∙ is.of_side;
+        few = omega (arith, writes.known, is.few);
+        whole = known.whole;
+        head = head_now;
+        bytes = known.bytes;
+        sum = known.sum;
+        parts = known.parts;
+        sums = known.sums;
+        flags = known.flags;
+        same = known.same;
+      }
 
 -- a write of a sector of the array, by its place on the disk
 pub follows_array : (b : ℕ) (d : Sectors) (side : Side) (t : Table) (old new : FollowedCopy) (a at : ℕ) (y : List ℕ) → IsSectorSize b
@@ -272,7 +288,6 @@ follows_array b d side t old new a at y size is low long start within writes =
     ap (λ (z : Side). array_place b z old.sectors) is.of_side ∙ ap (λ (m : ℕ). array_place b side m) is.sectors in
     let here : at ≡ array_place b side (length d) = start ∙ place in
     let e : array_place b side (length d) + (a - at) ≡ a = omega (arith, here, start, within.0) in
-    let many : counted b old.count ≡ counted b (length t.entries) = ap (λ (m : ℕ). counted b m) is.count in
-    let lt : a - at < counted b (length t.entries) = omega (arith, start, within.0, within.1, many) in
+    let lt : a - at < counted b old.known = omega (arith, start, within.0, within.1) in
     subst (λ (m : ℕ). Follows b (slice_set d m y) side t new) e
     (follows_part b d side t old new (a - at) y size is (rw e low) long lt writes)

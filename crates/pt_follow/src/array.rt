@@ -3,7 +3,8 @@
 ghost use Rattle.std.specs.Prelude.{◌≡◌, ◌<◌, ◌≤◌, ◌+◌, ◌*◌, ◌↔◌, IsTrue, length, slice_range};
 ghost use Rattle.pt_sector.specs.Sectors.{IsSectorSize};
 ghost use Rattle.pt_gpt.specs.Entries.{EntryIs};
-ghost use Rattle.pt_follow.specs.inner.Follow.{SectorHas, entries_with};
+ghost use Rattle.pt_follow.specs.Follow.{SectorHas};
+ghost use Rattle.pt_follow.specs.inner.Follow.{entries_with};
 
 use pt_gpt::{ENTRY_SIZE, Entry, EntryView};
 use pt_sector::Sector;

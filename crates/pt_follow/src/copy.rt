@@ -2,42 +2,49 @@
 
 ghost use Rattle.std.specs.Prelude.{◌≡◌, ◌<◌, ◌≤◌, ◌*◌, ◌↔◌, ℕ, IsTrue, length, slice_set};
 ghost use Rattle.pt_sector.specs.Sectors.{Sectors, IsSectorSize};
-ghost use Rattle.pt_gpt.specs.Copies.{counted};
+ghost use Rattle.pt_gpt.specs.Copies.{counted, array_place, bytes_from};
 ghost use Rattle.pt_gpt.specs.declared.table.Side.{Side};
 ghost use Rattle.pt_gpt.specs.declared.table.Table.{Table};
-ghost use Rattle.pt_follow.specs.Follow.{Follows, InCopy, StandingIs};
-ghost use Rattle.pt_follow.specs.inner.Follow.{AllTrue, InArrayOf, IsShaped, IsOf, WritesPart};
+ghost use Rattle.pt_sum.specs.Sums.{crc_of};
+ghost use Rattle.pt_follow.specs.Follow.{Follows, StandingIs, IsShort, entries_at};
+ghost use Rattle.pt_follow.specs.inner.Follow.{AreSet, InArrayOf, IsShaped, IsOf, WritesPart};
 
 use crate::array::{has_entries, put_sector};
 use crate::head::head_in;
 use crate::standing::Standing;
-use crate::sum::sum_with;
+use crate::sum::{part_sum, sum_with};
 use pt_gpt::{
     ENTRY_SIZE, Header, MOST_ENTRIES, Side, Table, array_at, counted_sectors, has_room, header_at,
 };
+use pt_resum::sum_of_both;
 use pt_sector::{Lba, Sector};
+use pt_sum::crc32;
 
 /// A side's copy of a table, followed write by write. [`follow`](crate::follow) makes one, and each write of the disk is to be told to it.
 #[derive(Drop)]
 pub struct FollowedCopy {
     pub(crate) side: Side,
     pub(crate) sectors: u64,
-    pub(crate) count: u32,
+    // how many entries of the array are known, whatever number the table has
+    pub(crate) known: u32,
     // the header that stands there
     pub(crate) head: Option<Header>,
-    // the bytes of the array's entries as they stand
+    // the bytes of these entries as they stand
     pub(crate) bytes: Vec<u8>,
     // their CRC-32
     pub(crate) sum: u32,
-    // of each of the array's sectors, whether it has the table's entries
+    // that of those in each sector
+    pub(crate) sums: Vec<u32>,
+    // of each of these sectors, whether it has the table's entries
     pub(crate) same: Vec<bool>,
 }
 
-fn all_true(flags: &[bool]) -> bool
-    ensures { IsTrue result → AllTrue flags.now }
+// Whether each of the first `count` flags is set.
+fn are_set(flags: &[bool], count: u64) -> bool
+    ensures { IsTrue result → AreSet flags.now count }
 {
-    for flag in flags {
-        if !*flag {
+    for k in 0..count {
+        if k >= flags.len() as u64 || !flags[k as usize] {
             return false;
         }
     }
@@ -67,42 +74,35 @@ impl FollowedCopy {
         ensures { IsTrue result ↔ IsShaped B self.now }
     {
         has_room::<B>(self.sectors)
-            && self.count <= MOST_ENTRIES as u32
-            && self.bytes.len() == self.count as usize * ENTRY_SIZE
+            && self.known <= MOST_ENTRIES as u32
+            && self.bytes.len() == self.known as usize * ENTRY_SIZE
+            && self.sums.len() as u64 == counted_sectors::<B>(self.known)
     }
 
-    // Whether the sector is of its array.
+    // Whether the sector is of its array, as far as that is known.
     fn has_in_array<const B: usize>(&self, lba: Lba) -> bool
         requires size { IsSectorSize B }
         requires shaped { IsShaped B self.now }
         ensures { IsTrue result ↔ InArrayOf B self.now lba.0 }
     {
         let first = array_at::<B>(self.side, self.sectors);
-        lba.0 >= first && lba.0 - first < counted_sectors::<B>(self.count)
-    }
-
-    /// Whether the sector is of this copy: its header's, or one of its array's.
-    pub fn has<const B: usize>(&self, lba: Lba) -> bool
-        requires { IsSectorSize B }
-        ensures { (d : Sectors) (side : Side) (t : Table) → Follows B d side t self.now
-            → IsTrue result ↔ InCopy B (length d) side (length t.entries) lba.0 }
-    {
-        if !self.is_shaped::<B>() {
-            return false;
-        }
-        lba.0 == header_at(self.side, self.sectors) || self.has_in_array::<B>(lba)
+        lba.0 >= first && lba.0 - first < counted_sectors::<B>(self.known)
     }
 
     // Takes the bytes that sector `k` of the array now has.
     fn write_part<const B: usize>(&mut self, table: &Table, k: u64, bytes: &Sector<B>)
         requires size { IsSectorSize B }
-        requires most { self.old.count ≤ 128 }
-        requires long { length self.old.bytes.items ≡ self.old.count * 128 }
-        requires within { k < counted B self.old.count }
+        requires most { self.old.known ≤ 128 }
+        requires long { length self.old.bytes.items ≡ self.old.known * 128 }
+        requires parts { length self.old.sums.items ≡ counted B self.old.known }
+        requires within { k < counted B self.old.known }
         ensures { WritesPart B table.now.entries k bytes.now self.old self.new }
     {
-        self.sum = sum_with::<B>(self.sum, &self.bytes, self.count, k, bytes);
+        let before = self.sums[k as usize];
+        let now = part_sum::<B>(self.known, k, bytes);
+        self.sum = sum_with::<B>(self.sum, before, now, self.known, k);
         put_sector::<B>(&mut self.bytes, k, bytes);
+        self.sums[k as usize] = now;
         set_flag(
             &mut self.same,
             k,
@@ -130,24 +130,70 @@ impl FollowedCopy {
         }
     }
 
+    // The sum of the first so many sectors of the array, each of which is known whole.
+    fn sum_of_sectors<const B: usize>(&self, count: usize) -> u32
+        requires size { IsSectorSize B }
+        requires shaped { IsShaped B self.now }
+        requires within { count * B ≤ self.now.known * 128 }
+        ensures { (d : Sectors) (side : Side) (t : Table) → Follows B d side t self.now
+            → result ≡ crc_of (bytes_from d (array_place B side (length d)) count) }
+    {
+        let mut sum = 0;
+        for k in 0..count {
+            sum = sum_of_both(sum, self.sums[k], (B / ENTRY_SIZE) as u32);
+        }
+        sum
+    }
+
+    // The sum of the first so many entries.
+    fn sum_of_first<const B: usize>(&self, count: u32) -> u32
+        requires size { IsSectorSize B }
+        requires shaped { IsShaped B self.now }
+        requires within { count ≤ self.now.known }
+        ensures { (d : Sectors) (side : Side) (t : Table) → Follows B d side t self.now → result ≡ crc_of (entries_at B d side count) }
+    {
+        if count == self.known {
+            return self.sum;
+        }
+        let size = count as usize * ENTRY_SIZE;
+        let sectors = size / B;
+        let sum = self.sum_of_sectors::<B>(sectors);
+        let behind = (size - sectors * B) / ENTRY_SIZE;
+        sum_of_both(sum, crc32(&self.bytes[sectors * B..size]), behind as u32)
+    }
+
     /// How it stands to the table, which is the one beside which it is followed. Nothing is read.
-    pub fn standing(&self, table: &Table) -> Standing
-        ensures { (b : ℕ) (d : Sectors) (side : Side) → IsSectorSize b → Follows b d side table.now self.now
-            → StandingIs b d side table.now result }
+    pub fn standing<const B: usize>(&self, table: &Table) -> Standing
+        requires { IsSectorSize B }
+        ensures { (d : Sectors) (side : Side) → Follows B d side table.now self.now → StandingIs B d side table.now result }
     {
         let header = match &self.head {
             Some(header) => header,
             None => return Standing::LostHead,
         };
-        if header.count != self.count {
+        let count = header.count;
+        if count > self.known || !self.is_shaped::<B>() {
             return Standing::Unclear;
         }
-        if header.array_crc != self.sum {
-            return Standing::LostArray;
+        if header.array_crc != self.sum_of_first::<B>(count) {
+            return Standing::LostArray(count);
         }
-        if is_of(header, table) && all_true(&self.same) {
+        if count as usize == table.entries.len()
+            && is_of(header, table)
+            && are_set(&self.same, counted_sectors::<B>(count))
+        {
             return Standing::Gives;
         }
         Standing::Unclear
+    }
+
+    /// Whether its header tells of more entries than are known. Then only a reading of the side tells how it stands.
+    pub fn is_short(&self) -> bool
+        ensures { IsTrue result ↔ IsShort self.now }
+    {
+        match &self.head {
+            Some(header) => header.count > self.known,
+            None => false,
+        }
     }
 }

@@ -7,8 +7,8 @@ pub enum Standing {
     Gives,
     /// There is no copy: no header of the side stands there.
     LostHead,
-    /// There is no copy: the array has another CRC than the header says.
-    LostArray,
-    /// Nothing is said of it. It may be a copy of another table, or the header tells of another number of entries.
+    /// There is no copy: the array has another CRC than the header says, which tells of so many entries.
+    LostArray(u32),
+    /// Nothing is said of it. It may be a copy of another table, or the header tells of more entries than are known.
     Unclear,
 }

@@ -79,3 +79,14 @@ changed p x y s alike =
     let d : bit_xor (crc_of x) (crc_of y) ≡ bit_xor a b = crc_difference front x y alike in
     rw (d, three_parts all p x s, three_parts all p y s, after)
     (xor_turn (after_bytes a s) all (moved (8 * length s) (bit_xor a b)))
+
+-- the sum of two parts
+pub joined : (x y : List ℕ) → bit_xor (crc_of y) (moved (8 * length y) (crc_of x)) ≡ crc_of (x ++ y)
+joined x y =
+    let all : ℕ = 0xFFFFFFFF in
+    let front : ℕ = after_bytes all x in
+    let turned : front ≡ bit_xor all (crc_of x) = sym (ap (bit_xor all) (xor_comm front all) ∙ xor_back all front) in
+    let after : after_bytes front y ≡ bit_xor (after_bytes all y) (moved (8 * length y) (crc_of x)) =
+    ap (λ (r : ℕ). after_bytes r y) turned ∙ bytes_linear all (crc_of x) y in
+    sym (ap (λ (r : ℕ). bit_xor r all) (after_bytes-append all x y ∙ after)
+    ∙ xor_turn (after_bytes all y) (moved (8 * length y) (crc_of x)) all)

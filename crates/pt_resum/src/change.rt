@@ -42,3 +42,11 @@ pub fn sum_after_change(sum: u32, before: u32, now: u32, behind: u32) -> u32
 {
     sum ^ moved_behind(before ^ now, behind)
 }
+
+/// The CRC-32 of two byte strings joined, from the sum of each. The second has `behind` times 128 bytes, less than 16,384.
+pub fn sum_of_both(first: u32, second: u32, behind: u32) -> u32
+    requires { behind < 128 }
+    ensures { (a b : List ℕ) → length b ≡ 128 * behind → first ≡ crc_of a → second ≡ crc_of b → result ≡ crc_of (a ++ b) }
+{
+    second ^ moved_behind(first, behind)
+}
