@@ -14,9 +14,15 @@ use Rattle.pt_members.specs.declared.layout.Body.TheVariants.{Mbr, Gpt}
 use Rattle.pt_members.specs.declared.member.Kind.{Kind}
 use Rattle.pt_members.specs.declared.member.Kind.TheVariants.{Leaf, Slice, Extended}
 use Rattle.pt_members.specs.declared.member.Member.{Member}
-use Rattle.pt_members.specs.Members.{Group, group_of, IsMember, groups_of, group_in, top_group, strays, present, slots, tops, logicals}
+use Rattle.pt_members.specs.Members.{Group, group_of, groups_of, group_in, top_group, strays, present, slots, tops, logicals}
 use Rattle.pt_members.specs.Members.{logicals_as, parts, record_kind, records_as, record_member}
-use Rattle.pt_members.specs.inner.Tables.{AtPlace, InLayout}
+use Rattle.pt_members.proofs.Standing.{AtPlace, InLayout}
+
+-- m is one of a group
+pub record InGroups (b : ℕ) (o : Layout) (m : Member) : Type 0 where
+  pub group : Group
+  pub stands : Contains (groups_of b o) group
+  pub sibling : Contains group.members m
 
 -- membership, by cases on the list
 pub contains_head : {X : Type 0} (x : X) (xs : List X) → Contains (x ∷ xs) x
@@ -49,7 +55,7 @@ to_flat f (z ∷ xs) x y in_xs in_f = elim (contains_cases z xs x in_xs) as (λ 
 ]
 
 -- a present one stands in a place
-place_tail : (o : Option Member) (os : List (Option Member)) (m : Member) → AtPlace os m → AtPlace (o ∷ os) m
+pub place_tail : (o : Option Member) (os : List (Option Member)) (m : Member) → AtPlace os m → AtPlace (o ∷ os) m
 place_tail o os m at = (suc at.0, omega (arith, at.1), at.2)
 
 pub from_present : (os : List (Option Member)) (m : Member) → Contains (present os) m → AtPlace os m
@@ -149,9 +155,9 @@ stray_place b (Mbr rs chain) g x in_strays in_members = by_case (extended_of rs)
       let h : strays b (Mbr rs chain) ≡ [] = rw (e, strays) refl in
       absurd (contains_none g (subst (λ (l : List Group). Contains l g) h in_strays))
 
-pub member_place : (b : ℕ) (o : Layout) (x : Member) → IsMember b o x → InLayout b o x
+pub grouped_place : (b : ℕ) (o : Layout) (x : Member) → InGroups b o x → InLayout b o x
 unfolding groups_of
-member_place b o x is =
+grouped_place b o x is =
     elim (contains_cases (top_group b o.sectors o.body) (flat_map (group_in b o)
     (present (slots b o.body)) ++ strays b o.body) is.group is.stands) as (λ _. InLayout b o x) [
       | inl top ↦ (x, top_place b o x (subst (λ (g : Group). Contains g.members x) (sym top) is.sibling), inl refl)
@@ -222,7 +228,7 @@ logical_held b n (Mbr rs chain) ls x is = by_case (extended_of rs) refl where
       let f = extended_member b 1 rs r es e in
       held_by b (layout_of n (Mbr rs chain) ls) f.0 x (place_left (records_as b 1 rs) (logicals_as b 5 chain) f.0 f.1) f.2 is
 
-in_top : (b : ℕ) (o : Layout) (x : Member) → AtPlace (tops b o.body) x → IsMember b o x
+in_top : (b : ℕ) (o : Layout) (x : Member) → AtPlace (tops b o.body) x → InGroups b o x
 unfolding groups_of
 in_top b o x at = record {
   group = top_group b o.sectors o.body;
@@ -230,7 +236,7 @@ in_top b o x at = record {
   sibling = subst (λ (l : List Member). Contains l x) (sym (top_members b o.sectors o.body)) (to_present (tops b o.body) x at);
 }
 
-in_held : (b : ℕ) (o : Layout) (x : Member) → IsHeld b o x → IsMember b o x
+in_held : (b : ℕ) (o : Layout) (x : Member) → IsHeld b o x → InGroups b o x
 unfolding groups_of
 in_held b o x is = record {
   group = is.0;
@@ -238,13 +244,13 @@ in_held b o x is = record {
   sibling = is.2;
 }
 
-in_slot : (b : ℕ) (o : Layout) (x : Member) → AtPlace (slots b o.body) x → IsMember b o x
-in_slot b o x at = elim (present_split (tops b o.body) (logicals b o.body) x at) as (λ _. IsMember b o x) [
+in_slot : (b : ℕ) (o : Layout) (x : Member) → AtPlace (slots b o.body) x → InGroups b o x
+in_slot b o x at = elim (present_split (tops b o.body) (logicals b o.body) x at) as (λ _. InGroups b o x) [
   | inl top ↦ in_top b o x top
   | inr logical ↦ in_held b o x (logical_held b o.sectors o.body o.labels x (to_present (logicals b o.body) x logical))
 ]
 
-in_label : (b : ℕ) (o : Layout) (m x : Member) → AtPlace (slots b o.body) m → m.kind ≡ Slice → AtPlace (parts o m) x → IsMember b o x
+in_label : (b : ℕ) (o : Layout) (m x : Member) → AtPlace (slots b o.body) m → m.kind ≡ Slice → AtPlace (parts o m) x → InGroups b o x
 unfolding slice_group
 in_label b o m x at is part = in_held b o x (
   slice_group o m,
@@ -254,9 +260,9 @@ in_label b o m x at is part = in_held b o x (
   to_present (parts o m) x part,
 )
 
-pub place_member : (b : ℕ) (o : Layout) (x : Member) → InLayout b o x → IsMember b o x
-place_member b o x (m, at, inl same) = subst (λ (w : Member). IsMember b o w) (sym same) (in_slot b o m at)
-place_member b o x (m, at, inr (is, part)) = in_label b o m x at is part
+pub place_grouped : (b : ℕ) (o : Layout) (x : Member) → InLayout b o x → InGroups b o x
+place_grouped b o x (m, at, inl same) = subst (λ (w : Member). InGroups b o w) (sym same) (in_slot b o m at)
+place_grouped b o x (m, at, inr (is, part)) = in_label b o m x at is part
 
 pub slice_group_is : (o : Layout) (m : Member) → slice_group o m ≡ group_of (m.first + 16) m.last (present (parts o m))
 unfolding slice_group

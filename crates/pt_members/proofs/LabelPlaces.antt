@@ -1,8 +1,8 @@
 -- The slices with a label place, one place more at a time.
 use Rattle.std.proofs.Common.{◌≡◌, ◌<◌, ◌≤◌, ◌+◌, ℕ, List, [], ◌∷◌, ◌++◌, length, get_or, take, filter, Option, None, sym, ap, ◌∙◌, Some}
-use Rattle.std.proofs.Common.{refl, subst, inl, inr, ⊎_elim, append-nil, arith, true, ◌^◌}
+use Rattle.std.proofs.Common.{refl, subst, inl, inr, ⊎_elim, append-nil, arith, map, true, ◌^◌}
 use Rattle.std.specs.Prelude.{◌⊎◌, flat_map, All}
-use Rattle.std.proofs.lemmas.List.{take_more, take_all}
+use Rattle.std.proofs.lemmas.List.{map-append, take_more, take_all}
 use Rattle.std.proofs.lemmas.List.Elements.{filter-append, filter_passes}
 use Rattle.std.proofs.lemmas.Grind.{flat_map-append}
 use Rattle.pt_members.specs.declared.layout.Slice.{Slice}
@@ -14,7 +14,10 @@ use Rattle.pt_members.specs.declared.member.Kind.{Kind}
 use Rattle.pt_members.specs.declared.member.Kind.TheVariants as kind
 use Rattle.pt_members.specs.declared.member.Member.{Member}
 use Rattle.pt_members.specs.Members.{slots, slice_of, slice_in, slices_of, has_place, place_of, places_of, IsPlace}
-use Rattle.pt_members.specs.Members.{entries_as, tops, logicals}
+use Rattle.pt_members.specs.Members.{entries_as, tops, logicals, present}
+use Rattle.pt_members.specs.declared.row.Row.{Row}
+use Rattle.pt_members.specs.Rows.{body_rows, member_of}
+use Rattle.pt_members.proofs.RowMembers.{body_members}
 use Rattle.pt_members.specs.inner.Members.{placed_in}
 use Rattle.pt_members.specs.Tables.{NextSectorIs, least_of}
 use Rattle.pt_members.proofs.Lowest.{next_same, next_or}
@@ -40,9 +43,25 @@ pub all_placed : (n k : ℕ) (os : List (Option Member)) → length os ≤ k
     → placed_before n os k ≡ filter (has_place n) (flat_map slice_in os)
 all_placed n k os past = ap (λ (l : List (Option Member)). filter (has_place n) (flat_map slice_in l)) (take_all k os past)
 
-pub placed_end : (b n k : ℕ) (y : Body) → length (slots b y) ≤ k → placed_before n (slots b y) k ≡ places_of b n y
+-- the slices with a label place among partitions
+abbrev pub placed_among : ℕ → List Member → List Slice
+placed_among n ms = filter (has_place n) (flat_map slice_of ms)
+
+pub among_more : (n : ℕ) (ms : List Member) (m : Member)
+    → placed_among n (ms ++ m ∷ []) ≡ placed_among n ms ++ filter (has_place n) (slice_of m)
+among_more n ms m =
+    let there = flat_map slice_of ms in
+    ap (filter (has_place n)) (flat_map-append slice_of ms (m ∷ []) ∙ ap (λ (l : List Slice). there ++ l) (append-nil (slice_of m)))
+    ∙ filter-append (has_place n) there (slice_of m)
+
+present_slices : (os : List (Option Member)) → flat_map slice_of (present os) ≡ flat_map slice_in os
+present_slices [] = refl
+present_slices (None ∷ os) = present_slices os
+present_slices (Some m ∷ os) = ap (λ (l : List Slice). slice_of m ++ l) (present_slices os)
+
+pub among_all : (b n : ℕ) (y : Body) → placed_among n (present (slots b y)) ≡ places_of b n y
 unfolding places_of slices_of
-placed_end b n k y past = all_placed n k (slots b y) past
+among_all b n y = ap (filter (has_place n)) (present_slices (slots b y))
 
 -- those among the entries of a GPT
 pub gpt_places : (b n : ℕ) (y : Body) (t : Table) (es : List (Option Entry)) → y ≡ Gpt t → es ≡ t.entries
@@ -73,16 +92,28 @@ no_slice n m other = by_kind m.kind refl where
   by_kind kind.Slice is = absurd (other is)
   by_kind kind.Extended is = rw is refl
 
--- the lowest label place of one place more
+-- the lowest label place of two lists
+pub lowest_joined : (from : ℕ) (ps qs : List Slice) (a b : Option ℕ) → NextSectorIs (IsPlace ps) from a → NextSectorIs (IsPlace qs) from b
+    → NextSectorIs (IsPlace (ps ++ qs)) from (least_of a b)
+lowest_joined from ps qs a b p q =
+    next_same (λ (s : ℕ). IsPlace ps s ⊎ IsPlace qs s) (IsPlace (ps ++ qs)) from (least_of a b) (place_joined ps qs) (place_split ps qs)
+    (next_or (IsPlace ps) (IsPlace qs) from a b p q)
+
+-- of one place more
 pub lowest_more : (n k from : ℕ) (os : List (Option Member)) (a b : Option ℕ) → k < length os
     → NextSectorIs (IsPlace (placed_before n os k)) from a → NextSectorIs (IsPlace (placed_in n (get_or os k None))) from b
     → NextSectorIs (IsPlace (placed_before n os (k + 1))) from (least_of a b)
 lowest_more n k from os a b lt p q =
-    let ps = placed_before n os k in
-    let qs = placed_in n (get_or os k None) in
     subst (λ (l : List Slice). NextSectorIs (IsPlace l) from (least_of a b)) (sym (one_more n k os lt))
-    (next_same (λ (s : ℕ). IsPlace ps s ⊎ IsPlace qs s) (IsPlace (ps ++ qs)) from (least_of a b) (place_joined ps qs) (place_split ps qs)
-    (next_or (IsPlace ps) (IsPlace qs) from a b p q))
+    (lowest_joined from (placed_before n os k) (placed_in n (get_or os k None)) a b p q)
+
+-- of one partition more
+pub lowest_among : (n from : ℕ) (ms : List Member) (m : Member) (a b : Option ℕ) → NextSectorIs (IsPlace (placed_among n ms)) from a
+    → NextSectorIs (IsPlace (filter (has_place n) (slice_of m))) from b
+    → NextSectorIs (IsPlace (placed_among n (ms ++ m ∷ []))) from (least_of a b)
+lowest_among n from ms m a b p q =
+    subst (λ (l : List Slice). NextSectorIs (IsPlace l) from (least_of a b)) (sym (among_more n ms m))
+    (lowest_joined from (placed_among n ms) (filter (has_place n) (slice_of m)) a b p q)
 
 -- the lowest of one label place
 pub next_place : (ps : List Slice) (p : Slice) (from : ℕ) (r : Option ℕ) → p ∷ [] ≡ ps → NextSectorIs (λ s. s ≡ place_of p) from r

@@ -1,6 +1,6 @@
 pub mod Ascending
 pub mod ByPlace
-pub mod Elsewhere
+pub mod ByRows
 pub mod Equal
 pub mod Grouped
 pub mod Homes
@@ -8,10 +8,12 @@ pub mod InOrder
 pub mod LabelPlaces
 pub mod Listed
 pub mod Lowest
-pub mod OnePathLemmas
+pub mod Paths
+pub mod Standing
 pub mod Reaching
 pub mod RowMembers
 pub mod RowPlaces
+pub mod Searched
 pub mod SliceLists
 pub mod SliceListsLemmas
 pub mod Widening

@@ -15,10 +15,17 @@ use Rattle.pt_members.specs.declared.member.Kind.TheVariants.{Leaf, Slice, Exten
 use Rattle.pt_members.specs.declared.member.Member.{Member}
 use Rattle.pt_members.specs.declared.row.Source.{Source}
 use Rattle.pt_members.specs.declared.row.Source.TheVariants as source
-use Rattle.pt_members.specs.Members.{entries_as, label_of, logicals, logicals_as, part_of, parts, parts_as, parts_in, present, records_as}
+use Rattle.pt_members.specs.Members.{entries_as, label_of, logicals, logicals_as, part_of, parts_as, parts_in, present, records_as}
 use Rattle.pt_members.specs.Members.{slots, tops, part_sources, rows_with, sources}
-use Rattle.pt_members.specs.Members as members
-use Rattle.pt_members.specs.Rows.{member_of, rows_at, rows_below, rows_in, rows_of}
+use Rattle.pt_members.specs.inner.Members.{label_under, parts_from}
+use Rattle.pt_members.specs.Rows.{body_rows, member_of, members_below, members_of, rows_at, rows_below, rows_in}
+
+-- ## By place, without what stands there.
+
+-- a place: nothing where it is unused
+abbrev pub at_place : Layout → Option Member → List Member
+at_place o None = []
+at_place o (Some m) = m ∷ members_below m.kind o m
 
 -- where a partition stands, its record or entry does
 abbrev Has : Option Member → Option Source → Type 0
@@ -96,18 +103,14 @@ unfolding parts_in
 in_label None slice = refl
 in_label (Some l) slice = listed (parts_as l slice 0 l.entries) (part_sources l) (covers_parts l slice 0 l.entries)
 
-below_as : (k : Kind) (o : Layout) (m : Member) → map member_of (rows_below k o m) ≡ (elim k as (λ k. List Member) [
-  | Leaf ↦ []
-  | Slice ↦ present (parts o m)
-  | Extended ↦ []
-])
+below_as : (k : Kind) (o : Layout) (m : Member) → map member_of (rows_below k o m) ≡ members_below k o m
 below_as Leaf o m = refl
 below_as Slice o m = in_label (label_of o.labels m.path.number) m
 below_as Extended o m = refl
 
 -- of places, each with what stands below it
 all_listed : (o : Layout) (ms : List (Option Member)) (ss : List (Option Source)) → Covers ms ss
-    → map member_of (flat_map (rows_at o) (rows_with ms ss)) ≡ flat_map (members.rows_at o) ms
+    → map member_of (flat_map (rows_at o) (rows_with ms ss)) ≡ flat_map (at_place o) ms
 unfolding rows_with
 all_listed o [] [] covers = refl
 all_listed o [] (s ∷ ss) covers = refl
@@ -119,7 +122,32 @@ all_listed o (Some m ∷ ms) (Some s ∷ ss) covers =
     ap (λ (xs : List Member). m ∷ xs)
     (map-append member_of (rows_below m.kind o m) rest
     ∙ ap (λ (xs : List Member). xs ++ map member_of rest) (below_as m.kind o m)
-    ∙ ap (λ (xs : List Member). members.below o m ++ xs) (all_listed o ms ss covers.1))
+    ∙ ap (λ (xs : List Member). members_below m.kind o m ++ xs) (all_listed o ms ss covers.1))
 
-pub rows_are_members_lem : (b : ℕ) (o : Layout) → map member_of (rows_of b o) ≡ members.members_of b o
-rows_are_members_lem b o = all_listed o (slots b o.body) (sources o.body) (covers_slots b o.body)
+pub members_by_place : (b : ℕ) (o : Layout) → members_of b o ≡ flat_map (at_place o) (slots b o.body)
+members_by_place b o = all_listed o (slots b o.body) (sources o.body) (covers_slots b o.body)
+
+pub body_members : (b : ℕ) (y : Body) → map member_of (body_rows b y) ≡ present (slots b y)
+body_members b y = listed (slots b y) (sources y) (covers_slots b y)
+
+placed_members : (o : Layout) (ms : List (Option Member))
+    → flat_map (λ (m : Member). m ∷ members_below m.kind o m) (present ms) ≡ flat_map (at_place o) ms
+placed_members o [] = refl
+placed_members o (None ∷ ms) = placed_members o ms
+placed_members o (Some m ∷ ms) = ap (λ (l : List Member). (m ∷ members_below m.kind o m) ++ l) (placed_members o ms)
+
+-- the members in a table's places, each with those below it
+pub members_placed : (b : ℕ) (o : Layout)
+    → flat_map (λ (m : Member). m ∷ members_below m.kind o m) (present (slots b o.body)) ≡ members_of b o
+members_placed b o = placed_members o (slots b o.body) ∙ sym (members_by_place b o)
+
+parts_all : (l : Option Label) (m : Member) → parts_from l m 0 ≡ present (parts_in l m)
+unfolding parts_in
+parts_all None m = refl
+parts_all (Some l) m = refl
+
+-- the partitions of a slice's label, from the first letter on
+pub parts_below : (k : Kind) (o : Layout) (m : Member) → parts_from (label_under k o m) m 0 ≡ members_below k o m
+parts_below Leaf o m = refl
+parts_below Slice o m = parts_all (label_of o.labels m.path.number) m
+parts_below Extended o m = refl

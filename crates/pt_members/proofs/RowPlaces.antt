@@ -97,32 +97,32 @@ part_row_there l slice k m s lt is so =
 
 -- ## The rows from a place on.
 
-abbrev pub left_from : ℕ → List (Option Row) → List Row
+abbrev pub left_from : {X : Type 0} → ℕ → List (Option X) → List X
 left_from k os = flat_map option_to_list (drop k os)
 
-suc_more : (k : ℕ) (os : List (Option Row)) → left_from (suc k) os ≡ left_from (k + 1) os
+suc_more : {X : Type 0} (k : ℕ) (os : List (Option X)) → left_from (suc k) os ≡ left_from (k + 1) os
 suc_more k os = let more : suc k ≡ k + 1 = omega arith in ap (λ (n : ℕ). left_from n os) more
 
-left_cut : (os : List (Option Row)) (k : ℕ) → left_from k os ≡ option_to_list (get_or os k None) ++ left_from (suc k) os
+left_cut : {X : Type 0} (os : List (Option X)) (k : ℕ) → left_from k os ≡ option_to_list (get_or os k None) ++ left_from (suc k) os
 left_cut [] zero = refl
 left_cut [] (suc k) = refl
 left_cut (o ∷ os) zero = refl
 left_cut (o ∷ os) (suc k) = left_cut os k
 
-left_step : (os : List (Option Row)) (k : ℕ) (o : Option Row) → o ≡ get_or os k None
+left_step : {X : Type 0} (os : List (Option X)) (k : ℕ) (o : Option X) → o ≡ get_or os k None
     → left_from k os ≡ option_to_list o ++ left_from (k + 1) os
 left_step os k o is =
-    left_cut os k ∙ ap (λ (l : List Row). option_to_list (get_or os k None) ++ l) (suc_more k os)
-    ∙ ap (λ (p : Option Row). option_to_list p ++ left_from (k + 1) os) (sym is)
+    left_cut os k ∙ ap (λ (l : List _). option_to_list (get_or os k None) ++ l) (suc_more k os)
+    ∙ ap (λ (p : Option _). option_to_list p ++ left_from (k + 1) os) (sym is)
 
 -- a place that is used gives its row
-pub left_used : (os : List (Option Row)) (k : ℕ) (o : Option Row) (old : List Row) → is_some o ≡ true → o ≡ get_or os k None
-    → left_from k os ≡ old → MatchOption o ((old ≡ []) × (left_from (k + 1) os ≡ [])) (λ (r : Row). old ≡ r ∷ left_from (k + 1) os)
+pub left_used : {X : Type 0} (os : List (Option X)) (k : ℕ) (o : Option X) (old : List X) → is_some o ≡ true → o ≡ get_or os k None
+    → left_from k os ≡ old → MatchOption o ((old ≡ []) × (left_from (k + 1) os ≡ [])) (λ (r : X). old ≡ r ∷ left_from (k + 1) os)
 left_used os k None old some is was = absurd (grind (arith, some))
 left_used os k (Some r) old some is was = sym was ∙ left_step os k (Some r) is
 
 -- another is passed by
-pub left_unused : (os : List (Option Row)) (k : ℕ) (o : Option Row) (old : List Row) → is_some o ≡ false → o ≡ get_or os k None
+pub left_unused : {X : Type 0} (os : List (Option X)) (k : ℕ) (o : Option X) (old : List X) → is_some o ≡ false → o ≡ get_or os k None
     → left_from k os ≡ old → left_from (k + 1) os ≡ old
 left_unused os k None old none is was = sym (left_step os k None is) ∙ was
 left_unused os k (Some r) old none is was = absurd (grind (arith, none))
@@ -136,6 +136,13 @@ rows_most (m ∷ ms) (s ∷ ss) = omega (arith, rows_most ms ss)
 
 pub left_end : (b : ℕ) (y : Body) (k : ℕ) → length (slots b y) ≤ k → left_from k (rows b y) ≡ []
 left_end b y k past = ap (flat_map option_to_list) (drop_all k (rows b y) (omega (arith, past, rows_most (slots b y) (sources y))))
+
+pub members_end : (b : ℕ) (y : Body) (k : ℕ) → length (slots b y) ≤ k → left_from k (slots b y) ≡ []
+members_end b y k past = ap (flat_map option_to_list) (drop_all k (slots b y) past)
+
+pub part_members_end : (l : Label) (m : Member) (k : ℕ) → length l.entries ≡ 8 → 8 ≤ k → left_from k (parts_in (Some l) m) ≡ []
+part_members_end l m k counted past =
+    ap (flat_map option_to_list) (drop_all k (parts_in (Some l) m) (omega (arith, counted, past, parts_len l m)))
 
 pub parts_end : (l : Label) (m : Member) (k : ℕ) → length l.entries ≡ 8 → 8 ≤ k → left_from k (part_rows l m) ≡ []
 parts_end l m k counted past =

@@ -1,6 +1,6 @@
 -- The partitions of a layout, its slices, and the rows that show them.
 use Rattle.std.specs.Prelude.{if◌then◌else◌, ◌<◌, ◌≤◌, ◌+◌, ◌-◌, ◌^◌, ℕ, List, [], ◌∷◌, ◌++◌, flat_map, option_map, option_to_list}
-use Rattle.std.specs.Prelude.{is_some, Contains, Bool, Option, Some, None, nat_eq, ◌&&◌, ◌≡◌, ◌⊎◌, filter, nat_lt, nat_le, map, take}
+use Rattle.std.specs.Prelude.{is_some, Bool, Option, Some, None, nat_eq, ◌&&◌, ◌≡◌, ◌⊎◌, filter, nat_lt, nat_le, map, take}
 use Rattle.std.specs.Prelude.{count_by, slice_index_or}
 use Rattle.std.specs.Str.{bytes_eq}
 use Rattle.pt_bsd.specs.Labels.{entry_first_of}
@@ -165,12 +165,6 @@ strays b (Gpt t) = []
 unfoldable pub groups_of : ℕ → Layout → List Group
 groups_of b o = top_group b o.sectors o.body ∷ (flat_map (group_in b o) (present (slots b o.body)) ++ strays b o.body)
 
--- m is one of a group
-pub record IsMember (b : ℕ) (o : Layout) (m : Member) : Type 0 where
-  pub group : Group
-  pub stands : Contains (groups_of b o) group
-  pub sibling : Contains group.members m
-
 -- ## Slices, and where their label places are.
 --
 -- A slice is a member of that kind: what slices there are, in which order and under which numbers, the list of members says.
@@ -219,24 +213,7 @@ abbrev pub IsPlace : List Slice → ℕ → Type 0
 IsPlace [] s = ⊥
 IsPlace (p ∷ ps) s = (s ≡ place_of p) ⊎ IsPlace ps s
 
--- ## The partitions of a layout in the order of their paths, and what stands in the place of each.
-
--- what stands below a member in its place: the partitions of a slice's label
-abbrev pub below : Layout → Member → List Member
-below o m = elim m.kind as (λ k. List Member) [
-  | Leaf ↦ []
-  | kind.Slice ↦ present (parts o m)
-  | Extended ↦ []
-]
-
--- a place: nothing where it is unused
-abbrev pub rows_at : Layout → Option Member → List Member
-rows_at o None = []
-rows_at o (Some m) = m ∷ below o m
-
--- the records or entries, then the logical partitions
-abbrev pub members_of : ℕ → Layout → List Member
-members_of b o = flat_map (rows_at o) (slots b o.body)
+-- ## What stands in the place of each partition.
 
 -- the record or the entry in each place, as in `slots`
 unfoldable pub sources : Body → List (Option Source)

@@ -2,7 +2,8 @@
 use Rattle.std.specs.Prelude.{◌≡◌, ◌<◌, ◌≤◌, ◌⊎◌, ◌+◌, ℕ, Option, Some, None, length, ◌↔◌, List, Contains, if◌then◌else◌, nat_lt}
 use Rattle.pt_mbr.specs.Chain.{StandsAt}
 use Rattle.pt_gpt.specs.Copies.{array_len}
-use Rattle.pt_members.specs.Members.{places_of, IsPlace, IsMember, Exists, Holds}
+use Rattle.pt_members.specs.Members.{places_of, IsPlace, Exists, Holds}
+use Rattle.pt_members.specs.Rows.{IsMember}
 use Rattle.pt_members.specs.declared.layout.Layout.{Layout}
 use Rattle.pt_members.specs.declared.layout.Body.{Body}
 use Rattle.pt_members.specs.declared.layout.Body.TheVariants.{Mbr, Gpt}

@@ -71,7 +71,7 @@ fn joined(member: Option<Member>, source: Option<Source>) -> Option<Row>
 /// The partition in a place, from 0 on, with its record or entry, where the number of its logical partition is known. None where the
 /// place is unused.
 #[tactic(auto, using(crate::proofs::RowPlaces::row_there, crate::proofs::RowPlaces::row_unused, crate::proofs::RowPlaces::row_small))]
-pub fn numbered_row<const B: usize>(body: &Body, k: usize, number: u64) -> Option<Row>
+pub(crate) fn numbered_row<const B: usize>(body: &Body, k: usize, number: u64) -> Option<Row>
     requires within { k < length (slots B body.now) }
     requires number { number ≡ number_at body.now k }
     ensures value { result ≡ slice_index_or (rows B body.now) k None }

@@ -9,14 +9,13 @@ ghost use Rattle.pt_members.specs.inner.Members.{placed_in};
 
 use crate::layout::{Body, Slice};
 use crate::member::{Kind, Member};
-use crate::slots::{count_slots, entry_of, is_slice_type, next_number, numbered_slot};
+use crate::slots::{count_slots, entry_of, is_slice_type};
 use pt_gpt::Entry;
-use pt_mbr::FIRST_LOGICAL;
 use std::alloc::{AllocError, Global};
 
 // The slice that a member is, where it is one and has a label place on a disk of so many sectors.
 #[tactic(auto, using(crate::proofs::LabelPlaces::no_slice))]
-fn placed(sectors: u64, m: &Member) -> Option<Slice>
+pub(crate) fn placed(sectors: u64, m: &Member) -> Option<Slice>
     ensures value { option_to_list result ≡ filter (has_place sectors) (slice_of m.now) }
     ensures within { IfSome result (λ s. s.first + 1 < sectors) }
 {
@@ -36,7 +35,11 @@ fn placed(sectors: u64, m: &Member) -> Option<Slice>
 
 // The slice that an entry of this number is, where it is one and has a label place on a disk of so many sectors. Most are none,
 // and no member is made to see it.
-fn placed_entry<const B: usize>(sectors: u64, number: u64, entry: &Option<Entry>) -> Option<Slice>
+pub(crate) fn placed_entry<const B: usize>(
+    sectors: u64,
+    number: u64,
+    entry: &Option<Entry>,
+) -> Option<Slice>
     ensures value { option_to_list result ≡ placed_in sectors (option_map (entry_member B number) entry.now) }
     ensures within { IfSome result (λ s. s.first + 1 < sectors) }
 {
@@ -48,27 +51,6 @@ fn placed_entry<const B: usize>(sectors: u64, number: u64, entry: &Option<Entry>
         return None;
     }
     placed(sectors, &entry_of::<B>(number, entry))
-}
-
-// The slice in a place, where it has a label place on a disk of so many sectors.
-#[tactic(auto, using(crate::proofs::ByPlace::gpt_at, crate::proofs::ByPlace::gpt_len))]
-pub(crate) fn placed_at<const B: usize>(
-    sectors: u64,
-    body: &Body,
-    k: usize,
-    number: u64,
-) -> Option<Slice>
-    requires within { k < length (slots B body.now) }
-    requires number { number ≡ number_at body.now k }
-    ensures value { option_to_list result ≡ placed_in sectors (slice_index_or (slots B body.now) k None) }
-    ensures within { IfSome result (λ s. s.first + 1 < sectors) }
-{
-    if let Body::Gpt(table) = body {
-        let entries = table.entries.as_slice();
-        return placed_entry::<B>(sectors, 1 + k as u64, &entries[k]);
-    }
-    let m = numbered_slot::<B>(body, k, number)?;
-    placed(sectors, &m)
 }
 
 fn push_place(places: &mut Vec<Slice>, place: Option<Slice>) -> Result<(), AllocError>
@@ -102,7 +84,6 @@ fn entry_places<const B: usize>(
 /// The slices that have a label place on a disk of so many sectors, in order of their numbers.
 ///
 /// The second clause says what the type of a body does, since contracts see a body without types.
-#[tactic(auto, using(crate::proofs::LabelPlaces::placed_more, crate::proofs::LabelPlaces::placed_end, crate::proofs::ByPlace::from_five))]
 pub fn label_places<const B: usize>(
     alloc: Global,
     sectors: u64,
@@ -115,11 +96,10 @@ pub fn label_places<const B: usize>(
     if let Body::Gpt(table) = body {
         return entry_places::<B>(alloc, sectors, table.entries.as_slice());
     }
+    let _four = count_slots::<B>(body);
     let mut places = Vec::new(alloc);
-    let mut number = FIRST_LOGICAL;
-    for k in 0..count_slots::<B>(body) {
-        push_place(&mut places, placed_at::<B>(sectors, body, k, number))?;
-        number = next_number::<B>(body, k, number);
+    for member in body.members::<B>() {
+        push_place(&mut places, placed(sectors, &member))?;
     }
     Ok(places)
 }

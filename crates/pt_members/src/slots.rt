@@ -18,6 +18,9 @@ use pt_mbr::{Ebr, FIRST_LOGICAL, Record, SLICE_KIND, is_extended_kind};
 use pt_path::Path;
 use pt_sector::Lba;
 
+/// How many entries a label has, those that it doesn't count among them.
+pub const LETTERS: usize = 8;
+
 /// The type of slices in a GPT as a disk stores it: 516E7CB4-6ECF-11D6-8FF8-00022D09712B, of type code A500.
 const SLICE_TYPE: Guid = Guid([
     0xB4, 0x7C, 0x6E, 0x51, 0xCF, 0x6E, 0xD6, 0x11, 0x8F, 0xF8, 0x00, 0x02, 0x2D, 0x09, 0x71, 0x2B,
@@ -247,7 +250,7 @@ pub(crate) fn count_slots<const B: usize>(body: &Body) -> usize
 }
 
 /// How many places for members a table has: its records or entries, then its extended boot records.
-pub fn slot_count<const B: usize>(body: &Body) -> usize
+pub(crate) fn slot_count<const B: usize>(body: &Body) -> usize
     ensures { result ≡ length (slots B body.now) }
 {
     count_slots::<B>(body)
@@ -255,7 +258,7 @@ pub fn slot_count<const B: usize>(body: &Body) -> usize
 
 /// The number of the next place's logical partition, where that of this place's is known. That of the first place is
 /// `FIRST_LOGICAL`.
-pub fn next_number<const B: usize>(body: &Body, k: usize, number: u64) -> u64
+pub(crate) fn next_number<const B: usize>(body: &Body, k: usize, number: u64) -> u64
     requires within { k < length (slots B body.now) }
     requires number { number ≡ number_at body.now k }
     ensures { result ≡ number_at body.now (k + 1) }
@@ -271,7 +274,7 @@ pub fn next_number<const B: usize>(body: &Body, k: usize, number: u64) -> u64
 /// The member in a place, from 0 on: the records or entries first, then the chain's. None where that is unused. The number of its
 /// logical partition has to be known, so that a walk through the places doesn't count those before each.
 #[tactic(auto, using(crate::proofs::ByPlace::gpt_at, crate::proofs::ByPlace::gpt_len))]
-pub fn numbered_slot<const B: usize>(body: &Body, k: usize, number: u64) -> Option<Member>
+pub(crate) fn numbered_slot<const B: usize>(body: &Body, k: usize, number: u64) -> Option<Member>
     requires within { k < length (slots B body.now) }
     requires number { number ≡ number_at body.now k }
     ensures value { result ≡ slice_index_or (slots B body.now) k None }

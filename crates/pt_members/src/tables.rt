@@ -1,19 +1,16 @@
 //! The sectors that hold tables.
 
-ghost use Rattle.std.specs.Prelude.{◌≡◌, ◌<◌, ◌≤◌, ◌+◌, ◌^◌, ◌↔◌, ◌⊎◌, All, IsTrue, length, slice_index_or, None};
+ghost use Rattle.std.specs.Prelude.{◌≡◌, ◌<◌, ◌+◌, ◌^◌, ◌↔◌, IfSome, IsTrue, filter, flat_map, option_to_list};
 ghost use Rattle.pt_sector.specs.Sectors.{IsSectorSize};
 ghost use Rattle.pt_mbr.specs.Chain.{StandsAt};
-ghost use Rattle.pt_gpt.specs.Copies.{array_len};
-ghost use Rattle.pt_members.specs.inner.Members.{placed_in};
-ghost use Rattle.pt_members.specs.Members.{places_of, IsPlace, slots, number_at};
+ghost use Rattle.pt_members.specs.Members.{places_of, IsPlace, entries_as, has_place, slice_in};
 ghost use Rattle.pt_members.specs.Tables.{IsTable, IsEbr, IsBodyTable, IsGptTable, Lists, AreAlone, NextSectorIs, least_of};
 
 use crate::alone::{Alone, next_among};
-use crate::layout::{Body, Layout};
-use crate::slices::placed_at;
-use crate::slots::{next_number, slot_count};
-use pt_gpt::first_usable;
-use pt_mbr::{Ebr, FIRST_LOGICAL};
+use crate::layout::{Body, Layout, Slice};
+use crate::slices::{placed, placed_entry};
+use pt_gpt::{Entry, first_usable};
+use pt_mbr::Ebr;
 use pt_sector::Lba;
 
 // The lesser of two sectors.
@@ -69,31 +66,40 @@ fn next_of_body<const B: usize>(sectors: u64, body: &Body, from: u64) -> Option<
     }
 }
 
-// The label place of the slice in a place, where it has one.
-fn place_from<const B: usize>(
-    sectors: u64,
-    body: &Body,
-    k: usize,
-    number: u64,
-    from: u64,
-) -> Option<u64>
-    requires within { k < length (slots B body.now) }
-    requires number { number ≡ number_at body.now k }
-    ensures { NextSectorIs (IsPlace (placed_in sectors (slice_index_or (slots B body.now) k None))) from result }
+// The label place of a slice, where there is one that has it, and it isn't below a sector.
+fn place_from(slice: Option<Slice>, from: u64) -> Option<u64>
+    requires { IfSome slice (λ s. s.first + 1 < 2 ^ 64) }
+    ensures { NextSectorIs (IsPlace (option_to_list slice)) from result }
 {
-    let slice = placed_at::<B>(sectors, body, k, number)?;
-    not_below(slice.first + 1, from)
+    not_below(slice?.first + 1, from)
 }
 
-#[tactic(auto, using(crate::proofs::ByPlace::from_five))]
+// The lowest label place of an entry's slice from a sector on.
+#[tactic(auto, using(crate::proofs::ByPlace::entry_at, crate::proofs::ByPlace::entries_len))]
+fn next_of_entries<const B: usize>(
+    sectors: u64,
+    entries: &[Option<Entry>],
+    from: u64,
+) -> Option<u64>
+    ensures { NextSectorIs (IsPlace (filter (has_place sectors) (flat_map slice_in (entries_as B 1 entries.now)))) from result }
+{
+    let mut next = None;
+    for k in 0..entries.len() {
+        let slice = placed_entry::<B>(sectors, 1 + k as u64, &entries[k]);
+        next = least(next, place_from(slice, from));
+    }
+    next
+}
+
 fn next_label<const B: usize>(sectors: u64, body: &Body, from: u64) -> Option<u64>
     ensures { NextSectorIs (IsPlace (places_of B sectors body.now)) from result }
 {
+    if let Body::Gpt(table) = body {
+        return next_of_entries::<B>(sectors, table.entries.as_slice(), from);
+    }
     let mut next = None;
-    let mut number = FIRST_LOGICAL;
-    for k in 0..slot_count::<B>(body) {
-        next = least(next, place_from::<B>(sectors, body, k, number, from));
-        number = next_number::<B>(body, k, number);
+    for member in body.members::<B>() {
+        next = least(next, place_from(placed(sectors, &member), from));
     }
     next
 }

@@ -1,40 +1,40 @@
-use Rattle.std.proofs.Common.{arith, rules}
-use Rattle.pt_members.specs.inner.Tables.{NoneNear}
-use Rattle.pt_members.proofs.Elsewhere.{none_found, none_yet}
-use Rattle.pt_members.proofs.InOrder.{slot_first}
-use Rattle.pt_members.proofs.search.find.Goals.{in-Some+in_default-find_near, in_default}
+use Rattle.std.proofs.Common.{◌∷◌, [], ◌++◌, ◌∙◌, List, ap, append-nil, append_assoc, map, refl, subst, sym, rules}
+use Rattle.std.specs.Prelude.{Contains}
+use Rattle.pt_members.specs.declared.member.Member.{Member}
+use Rattle.pt_members.specs.Rows.{member_of}
+use Rattle.pt_members.proofs.Searched.{first_of_members, none_more, none_yet}
 use Rattle.pt_members.proofs.search.find.Goals as goal
 
-pub loop-k-preserved : goal.loop-k-preserved
-loop-k-preserved g c = record {
-  none = none_yet g.row.B c.loop-k.k c.args.layout.now c.args.wanted.now here c.loop-k.invariant.none;
-  number = c.next_number-number.ensures;
-} where
-  here : NoneNear g.row.B c.args.layout.now c.loop-k.k c.args.wanted.now
-  here = elim c.match-candidate.branch as (λ w. NoneNear g.row.B c.args.layout.now c.loop-k.k c.args.wanted.now) [
-    | in-Some+in_default-find_near w ↦
-        none_found g.row.B c.loop-k.k c.args.layout.now c.args.wanted.now w.in-Some.m (search rules) (search rules)
-    | in_default w ↦ search rules
-  ]
-
-pub candidate-requires : goal.candidate-requires
-candidate-requires g c = record {
-  within = omega (arith, c.loop-k-test.true, c.count_slots-k-end.ensures.value);
-  number = c.loop-k.invariant.number;
+pub loop-member-init : goal.loop-member-init
+loop-member-init g c = record {
+  can_next = tt;
+  is_finite = tt;
+  left = rw (c.into_iter-member-iterator.ensures.into_iter_gives, c.members-member-items.ensures) refl;
+  none = none_yet c.args.wanted.now;
 }
 
-pub next_number-number-requires : goal.next_number-number-requires
-next_number-number-requires g c = record {
-  within = omega (arith, c.loop-k-test.true, c.count_slots-k-end.ensures.value);
-  number = c.loop-k.invariant.number;
-}
+pub loop-member-preserved : goal.loop-member-preserved
+loop-member-preserved g c =
+    let before = c.loop-member.yielded in
+    let member = c.in-Some.member in
+    record {
+      can_next = tt;
+      is_finite = tt;
+      left = append_assoc before (member ∷ []) c.next.new.self
+          ∙ ap (λ (ms : List Member). before ++ ms) (sym c.in-Some.ensures.steps) ∙ c.loop-member.invariant.left;
+      none = none_more c.args.wanted.now before member c.loop-member.invariant.none (λ is. search rules);
+    }
 
-pub returns-in-Some-find_near : goal.returns-in-Some-find_near
-returns-in-Some-find_near g c =
-    slot_first g.row.B c.args.layout.now c.args.wanted.now c.loop-k.k c.in-Some.m c.in-Some-find_near.found c.count_slots-k-end.ensures.four
-    c.in-Some-find_near.ensures.close (omega (arith, c.loop-k-test.true, c.count_slots-k-end.ensures.value)) c.in-Some.ensures.some
-    c.in-Some-find_near.ensures.found c.loop-k.invariant.none
+pub returns-then-answers : goal.returns-then-answers
+returns-then-answers g c =
+    first_of_members g.row.B c.args.layout.now c.args.wanted.now c.loop-member.yielded c.in-Some.member c.next.new.self
+    c.count_slots-four.ensures.four
+    (ap (λ (ms : List Member). c.loop-member.yielded ++ ms) (sym c.in-Some.ensures.steps) ∙ c.loop-member.invariant.left)
+    (search rules) c.loop-member.invariant.none (c.answers.ensures.0 c.if-answers.true)
 
 pub returns : goal.returns
 returns g c = λ x at.
-    c.loop-k.invariant.none at.1.0 at.0 x (omega (arith, at.1.1, c.loop-k-test.false, c.count_slots-k-end.ensures.value)) at.1.2 at.2
+    let given = c.loop-member.yielded in
+    let all = sym (append-nil given)
+    ∙ ap (λ (ms : List Member). given ++ ms) (sym c.in-None.ensures.steps.0) ∙ c.loop-member.invariant.left in
+    c.loop-member.invariant.none x (subst (λ (ms : List Member). Contains ms x) (sym all) at)

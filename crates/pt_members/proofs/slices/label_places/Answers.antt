@@ -1,37 +1,38 @@
-use Rattle.pt_members.proofs.LabelPlaces.{placed_before, placed_more, placed_end, gpt_places}
+use Rattle.std.proofs.Common.{◌∷◌, [], ◌++◌, ◌∙◌, List, ap, append-nil, append_assoc, refl, sym}
+use Rattle.std.specs.Prelude.{option_to_list}
 use Rattle.pt_members.specs.declared.layout.Slice.{Slice}
 use Rattle.pt_members.specs.declared.member.Member.{Member}
-use Rattle.pt_members.specs.Members.{slots}
-use Rattle.std.specs.Prelude.{option_to_list}
-use Rattle.std.proofs.Common.{◌∙◌, ◌++◌, List, Option, ap, arith}
+use Rattle.pt_members.proofs.LabelPlaces.{among_all, among_more, gpt_places, placed_among}
 use Rattle.pt_members.proofs.slices.label_places.Goals as goal
 
-pub loop-k-preserved : goal.loop-k-preserved
-loop-k-preserved g c =
-    let os : List (Option Member) = slots g.row.B c.args.body.now in
+pub loop-member-init : goal.loop-member-init
+loop-member-init g c = record {
+  can_next = tt;
+  is_finite = tt;
+  left = rw (c.into_iter-member-iterator.ensures.into_iter_gives, c.members-member-items.ensures) refl;
+  places = c.new-places.ensures.items;
+}
+
+pub loop-member-preserved : goal.loop-member-preserved
+loop-member-preserved g c =
+    let before = c.loop-member.yielded in
+    let member = c.in-Some.member in
     record {
-      places = placed_more c.args.sectors c.loop-k.k os c.push_place.new.places.items (omega (arith, c.count_slots-k-end.ensures.value))
-          (c.in_ok-push_place.ensures ∙ ap (λ (l : List Slice). l ++ option_to_list c.placed_at.result) c.loop-k.invariant.places
-          ∙ ap (λ (l : List Slice). placed_before c.args.sectors os c.loop-k.k ++ l) c.placed_at.ensures.value);
-      number = c.next_number-number.ensures;
+      can_next = tt;
+      is_finite = tt;
+      left = append_assoc before (member ∷ []) c.next.new.self
+          ∙ ap (λ (ms : List Member). before ++ ms) (sym c.in-Some.ensures.steps.0) ∙ c.loop-member.invariant.left;
+      places = c.in_ok-push_place.ensures ∙ ap (λ (l : List Slice). l ++ option_to_list c.placed.result) c.loop-member.invariant.places
+          ∙ ap (λ (l : List Slice). placed_among c.args.sectors before ++ l) c.placed.ensures.value
+          ∙ sym (among_more c.args.sectors before member);
     }
-
-pub placed_at-requires : goal.placed_at-requires
-placed_at-requires g c = record {
-  within = omega (arith, c.count_slots-k-end.ensures.value);
-  number = c.loop-k.invariant.number;
-}
-
-pub next_number-number-requires : goal.next_number-number-requires
-next_number-number-requires g c = record {
-  within = omega (arith, c.count_slots-k-end.ensures.value);
-  number = c.loop-k.invariant.number;
-}
 
 pub returns-clause-value : goal.returns-clause-value
 returns-clause-value g c =
-    c.loop-k.invariant.places
-    ∙ placed_end g.row.B c.args.sectors c.loop-k.k c.args.body.now (omega (arith, c.count_slots-k-end.ensures.value))
+    let given = c.loop-member.yielded in
+    let all = sym (append-nil given)
+    ∙ ap (λ (ms : List Member). given ++ ms) (sym c.in-None.ensures.steps.0.0) ∙ c.loop-member.invariant.left in
+    c.loop-member.invariant.places ∙ ap (placed_among c.args.sectors) all ∙ among_all g.row.B c.args.sectors c.args.body.now
 
 pub returns-in-Gpt-clause-value : goal.returns-in-Gpt-clause-value
 returns-in-Gpt-clause-value g c =

@@ -1,11 +1,13 @@
-use Rattle.std.proofs.Common.{◌≡◌}
-use Rattle.pt_members.specs.Members.{number_at, slots, IsPlace}
+use Rattle.std.proofs.Common.{◌≡◌, ◌++◌}
+use Rattle.pt_members.specs.Members.{IsPlace, present, slots}
 use Rattle.pt_members.specs.Tables.{NextSectorIs}
-use Rattle.pt_members.proofs.LabelPlaces.{placed_before}
+use Rattle.pt_members.proofs.LabelPlaces.{placed_among}
 use Rattle.pt_members.proofs.tables.next_label.Given as goal
 
-abbrev pub invariant-loop-k : goal.invariant-loop-k
-invariant-loop-k g l = record {
-  next : NextSectorIs (IsPlace (placed_before l.sectors (slots g.row.B l.body) l.k)) l.from l.next;
-  number : l.number ≡ number_at l.body l.k;
+abbrev pub invariant-loop-member : goal.invariant-loop-member
+invariant-loop-member g l = record {
+  can_next : (goal.iterator-loop-member g).can_next l.member-iterator;
+  is_finite : (goal.iterator-loop-member g).is_finite l.member-iterator;
+  left : l.yielded ++ l.member-iterator ≡ present (slots g.row.B l.body);
+  next : NextSectorIs (IsPlace (placed_among l.sectors l.yielded)) l.from l.next;
 }

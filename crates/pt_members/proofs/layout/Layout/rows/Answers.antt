@@ -1,5 +1,5 @@
 use Rattle.std.proofs.Common.{List, Some, ap, ◌++◌, ◌∙◌}
-use Rattle.std.specs.Prelude.{flat_map, option_to_list}
+use Rattle.std.specs.Prelude.{flat_map}
 use Rattle.pt_members.specs.declared.row.Row.{Row}
 use Rattle.pt_members.specs.Members.{rows}
 use Rattle.pt_members.specs.Rows.{rows_at}
@@ -10,5 +10,5 @@ pub returns : goal.returns
 returns g c =
     let o = c.args.self.now in
     let places = rows g.row.B o.body in
-    ap (λ (l : List Row). l ++ flat_map (λ (r : Row). rows_at o (Some r)) (flat_map option_to_list places)) c.of.ensures
-    ∙ placed_rows o places
+    ap (λ (l : List Row). l ++ flat_map (λ (r : Row). rows_at o (Some r)) c.rows.result) c.of.ensures
+    ∙ ap (flat_map (λ (r : Row). rows_at o (Some r))) c.rows.ensures ∙ placed_rows o places

@@ -6,9 +6,9 @@ use Rattle.pt_members.proofs.walk.Parts.next.Goals as goal
 
 pub returns : goal.returns
 returns c =
-    let left = c.loop-self.self-inside in
-    let counted : length c.in_ok-label.label.entries ≡ 8 = search rules in
-    let none = parts_end c.in_ok-label.label left.slice left.k counted c.loop-self-test.false in (
+    let held = c.loop-self.self-inside.1 in
+    let counted : length c.in-Some.label.entries ≡ 8 = search rules in
+    let none = parts_end c.in-Some.label held.1.0 held.1.1.0 counted c.loop-self-test.false in (
       sym c.loop-self.invariant.left ∙ none,
-      ap (λ (l : Option Label). parts_left l left.slice left.k) c.loop-self.invariant.labelled ∙ none,
+      ap (λ (l : Option Label). parts_left l held.1.0 held.1.1.0) c.in-Some.is ∙ none,
     )

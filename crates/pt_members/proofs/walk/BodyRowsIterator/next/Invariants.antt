@@ -1,7 +1,7 @@
 use Rattle.std.proofs.Common.{◌≡◌, ◌≤◌, ◌-◌, length}
 use Rattle.pt_members.specs.Members.{number_at, rows, slots}
 use Rattle.pt_members.proofs.RowPlaces.{left_from}
-use Rattle.pt_members.proofs.walk.Places.next.Given as goal
+use Rattle.pt_members.proofs.walk.BodyRowsIterator.next.Given as goal
 
 abbrev pub invariant-loop-self : goal.invariant-loop-self
 invariant-loop-self g l = record {

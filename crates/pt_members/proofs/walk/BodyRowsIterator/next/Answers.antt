@@ -1,9 +1,9 @@
 use Rattle.std.proofs.Common.{◌∙◌, sym, arith}
 use Rattle.pt_members.proofs.RowPlaces.{left_end}
-use Rattle.pt_members.proofs.walk.Places.next.Goals as goal
+use Rattle.pt_members.proofs.walk.BodyRowsIterator.next.Goals as goal
 
-pub returns-clause-first : goal.returns-clause-first
-returns-clause-first g c =
+pub returns-clause-steps : goal.returns-clause-steps
+returns-clause-steps g c =
     let left = c.loop-self.self-inside in
     let none = left_end g.row.B left.body.now left.k (omega (arith, c.loop-self-test.false, c.slot_count.ensures)) in
-    (sym c.loop-self.invariant.left ∙ none, none)
+    ((sym c.loop-self.invariant.left ∙ none, none), tt)
