@@ -1,13 +1,15 @@
 -- Fields, from where a text is cut.
 use Rattle.std.proofs.Common.{◌≡◌, ◌≢◌, ◌<◌, ◌≤◌, ℕ, List, [], ◌∷◌, ◌++◌, length, Option, Some, None, refl, ◌∙◌, arith, lit<, Bor, IfNone}
-use Rattle.std.proofs.Common.{IfSome, eqb, get_or, false}
+use Rattle.std.proofs.Common.{IfSome, eqb, get_or, false, Ok, Err, ap}
 use Rattle.std.specs.Option.{MatchOption}
-use Rattle.std.specs.List.{position_or_len, before_first, after_first}
-use Rattle.std.proofs.lemmas.List.Splits.{slice_split_first, slice_split_none, length-slice_split}
+use Rattle.std.specs.List.{join_with_byte, position_or_len, before_first, after_first}
+use Rattle.std.proofs.lemmas.List.Splits.{join_with_byte-slice_split, slice_split_first, slice_split_none, length-slice_split}
 use Rattle.std.proofs.lemmas.Str.Pattern.{IsSplitOnceResult, split_once_first, split_parts}
 use Rattle.std.proofs.lemmas.Bool.{ne_eqb}
 use Rattle.std.proofs.lemmas.List.Elements.{All-from_get_or}
-use Rattle.pt_words.specs.Words.{fields}
+use Rattle.pt_words.specs.Words.{fields, one_of, named_of, alone, word_of}
+use Rattle.pt_words.specs.declared.word.Edit.{Edit}
+use Rattle.pt_words.specs.declared.error.EditError.TheVariants.{FieldCount, UnknownLetter}
 
 -- a text without a colon is one field
 one_alone : (text : List ℕ) → ((i : ℕ) → i < length text → get_or text i 0 ≢ 58) → fields text ≡ text ∷ []
@@ -40,3 +42,32 @@ at_some (Some x) P Q h = h
 pub at_none : {A : Type 0} (r : Option A) (P : Type 0) (Q : A → Type 0) → MatchOption r P Q → IfNone r P
 at_none None P Q h = h
 at_none (Some x) P Q h = tt
+
+-- behind a field there is another
+pub two_at_least : (f text : List ℕ) → one_of (f ∷ fields text) ≡ Err FieldCount
+two_at_least f text = by_parts (fields text) (some_field text) where
+  by_parts : (fs : List (List ℕ)) → 1 ≤ length fs → one_of (f ∷ fs) ≡ Err FieldCount
+  by_parts [] some = absurd (omega arith)
+  by_parts (g ∷ fs) some = refl
+
+-- and the text of those behind it
+pub named_text : (f text : List ℕ) → named_of (f ∷ fields text) ≡ Ok (f, text)
+named_text f text = by_parts (fields text) (some_field text) (join_with_byte-slice_split 58 text) where
+  by_parts : (fs : List (List ℕ)) → 1 ≤ length fs → join_with_byte 58 fs ≡ text → named_of (f ∷ fs) ≡ Ok (f, text)
+  by_parts [] some is = absurd (omega arith)
+  by_parts (g ∷ fs) some is = ap (λ (name : List ℕ). Ok (f, name)) is
+
+-- a letter with fields behind it isn't alone
+pub not_alone : (w : Edit) (text : List ℕ) → alone w (fields text) ≡ Err FieldCount
+unfolding alone
+not_alone w text = by_parts (fields text) (some_field text) where
+  by_parts : (fs : List (List ℕ)) → 1 ≤ length fs → alone w fs ≡ Err FieldCount
+  by_parts [] some = absurd (omega arith)
+  by_parts (g ∷ fs) some = refl
+
+-- what isn't one byte is no letter
+pub no_letter : (letter : List ℕ) (rest : List (List ℕ)) → ((byte : ℕ) → letter ≢ byte ∷ []) → word_of (letter ∷ rest) ≡ Err UnknownLetter
+unfolding word_of
+no_letter [] rest none = refl
+no_letter (c ∷ []) rest none = absurd (none c refl)
+no_letter (c ∷ d ∷ bytes) rest none = refl

@@ -1,7 +1,4 @@
-pub mod Answers
+pub mod Answered
 pub mod Cuts
-pub mod Ends
-pub mod Faults
-pub mod OneWord
-pub mod Searches
-pub mod WordLaws
+pub mod NoMemory
+pub mod Values

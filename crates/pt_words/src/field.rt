@@ -1,12 +1,10 @@
 //! The fields of a word.
 
-ghost use Rattle.std.specs.Prelude.{◌≡◌, IfOk, IfErr, IfSome, IfNone, [], ◌∷◌, Some};
+ghost use Rattle.std.specs.Prelude.{◌≡◌, ◌≢◌, ◌≤◌, ℕ, List, IfOk, IfErr, IfSome, IfNone, [], ◌∷◌, Ok, Err};
 ghost use Rattle.std.specs.Option.{option_map};
-ghost use Rattle.pt_guid.specs.Guids.{stored_of};
-ghost use Rattle.pt_path.specs.Paths.{IsPath};
-ghost use Rattle.pt_words.specs.Words.{fields, IsNumberIn, IsNewPath, IsEnd, IsCode, Misfit, greatest, number, path, new_path, end, code};
-ghost use Rattle.pt_words.specs.Words.{guid};
-ghost use Rattle.pt_words.specs.inner.Words.{fields_after, Miscounted};
+ghost use Rattle.pt_words.specs.Words.{fields, greatest, number_in, path_in, new_path_in, end_in, code_in, guid_in};
+ghost use Rattle.pt_words.specs.Words.{one_of, two_of, three_of};
+ghost use Rattle.pt_words.specs.inner.Words.{fields_after};
 
 use crate::error::EditError;
 use crate::word::{Code, End};
@@ -37,9 +35,10 @@ pub(crate) fn next_field<'a>(rest: Option<&'a str>) -> Option<(&'a str, Option<&
 }
 
 // The only field.
+#[tactic(auto, using(crate::proofs::Cuts::two_at_least))]
 pub(crate) fn one_field<'a>(rest: Option<&'a str>) -> Result<&'a str, EditError>
-    ensures ok { IfOk result (λ r. fields_after (option_map (λ t. t.now) rest.entry) ≡ r.now ∷ []) }
-    ensures err { IfErr result (Miscounted 1 (fields_after (option_map (λ t. t.now) rest.entry))) }
+    ensures ok { IfOk result (λ f. one_of (fields_after (option_map (λ t. t.now) rest.entry)) ≡ Ok f.now) }
+    ensures err { IfErr result (λ e. one_of (fields_after (option_map (λ t. t.now) rest.entry)) ≡ Err e) }
 {
     match next_field(rest) {
         Some((first, rest)) => match rest {
@@ -52,8 +51,8 @@ pub(crate) fn one_field<'a>(rest: Option<&'a str>) -> Result<&'a str, EditError>
 
 // Both fields, where there are two.
 pub(crate) fn two_fields<'a>(rest: Option<&'a str>) -> Result<(&'a str, &'a str), EditError>
-    ensures ok { IfOk result (λ r. fields_after (option_map (λ t. t.now) rest.entry) ≡ r.0.now ∷ r.1.now ∷ []) }
-    ensures err { IfErr result (Miscounted 2 (fields_after (option_map (λ t. t.now) rest.entry))) }
+    ensures ok { IfOk result (λ f. two_of (fields_after (option_map (λ t. t.now) rest.entry)) ≡ Ok (f.0.now, f.1.now)) }
+    ensures err { IfErr result (λ e. two_of (fields_after (option_map (λ t. t.now) rest.entry)) ≡ Err e) }
 {
     match next_field(rest) {
         Some((first, rest)) => Ok((first, one_field(rest)?)),
@@ -65,8 +64,8 @@ pub(crate) fn two_fields<'a>(rest: Option<&'a str>) -> Result<(&'a str, &'a str)
 pub(crate) fn three_fields<'a>(
     rest: Option<&'a str>,
 ) -> Result<(&'a str, &'a str, &'a str), EditError>
-    ensures ok { IfOk result (λ r. fields_after (option_map (λ t. t.now) rest.entry) ≡ r.0.now ∷ r.1.now ∷ r.2.now ∷ []) }
-    ensures err { IfErr result (Miscounted 3 (fields_after (option_map (λ t. t.now) rest.entry))) }
+    ensures ok { IfOk result (λ f. three_of (fields_after (option_map (λ t. t.now) rest.entry)) ≡ Ok (f.0.now, f.1.now, f.2.now)) }
+    ensures err { IfErr result (λ e. three_of (fields_after (option_map (λ t. t.now) rest.entry)) ≡ Err e) }
 {
     match next_field(rest) {
         Some((first, rest)) => {
@@ -78,9 +77,10 @@ pub(crate) fn three_fields<'a>(
 }
 
 // A number in a range.
+#[tactic(auto, using(crate::proofs::Values::in_range, crate::proofs::Values::too_low, crate::proofs::Values::too_high))]
 pub(crate) fn number_in(text: &str, low: u64, high: u64) -> Result<u64, EditError>
-    ensures ok { IfOk result (IsNumberIn low high text.now) }
-    ensures err { IfErr result (Misfit (number low high) text.now) }
+    ensures value { result ≡ number_in low high text.now }
+    ensures high { IfOk result (λ number. number ≤ high) }
 {
     let found = match parse_number(text) {
         Some(found) => found,
@@ -97,16 +97,15 @@ pub(crate) fn number_in(text: &str, low: u64, high: u64) -> Result<u64, EditErro
 
 // The number of an entry.
 pub(crate) fn entry_number(text: &str) -> Result<u64, EditError>
-    ensures ok { IfOk result (IsNumberIn 1 greatest text.now) }
-    ensures err { IfErr result (Misfit (number 1 greatest) text.now) }
+    ensures { result ≡ number_in 1 greatest text.now }
 {
     number_in(text, 1, u64::MAX)
 }
 
 // A path.
+#[tactic(auto, using(crate::proofs::Values::read_path, crate::proofs::Values::unread_path))]
 pub(crate) fn path_field(text: &str) -> Result<Path, EditError>
-    ensures ok { IfOk result (IsPath text.now) }
-    ensures err { IfErr result (Misfit path text.now) }
+    ensures { result ≡ path_in text.now }
 {
     match parse_path(text) {
         Some(path) => Ok(path),
@@ -115,9 +114,9 @@ pub(crate) fn path_field(text: &str) -> Result<Path, EditError>
 }
 
 // The number of a new partition.
+#[tactic(auto, unfolding(crate::specs::Words::new_path_in))]
 pub(crate) fn new_path_field(text: &str) -> Result<Path, EditError>
-    ensures ok { IfOk result (IsNewPath text.now) }
-    ensures err { IfErr result (Misfit new_path text.now) }
+    ensures { result ≡ new_path_in text.now }
 {
     if text == "0" {
         return Ok(Path {
@@ -125,30 +124,35 @@ pub(crate) fn new_path_field(text: &str) -> Result<Path, EditError>
             letter: None,
         });
     }
-    match parse_path(text) {
-        Some(path) => Ok(path),
-        None => Err(EditError::NotANumber),
-    }
+    path_field(text)
+}
+
+// What stands behind a plus in front.
+fn after_plus(text: &str) -> Option<&str>
+    ensures some { IfSome result (λ digits. text.now ≡ 43 ∷ digits.now) }
+    ensures none { IfNone result ((digits : List ℕ) → text.now ≢ 43 ∷ digits) }
+{
+    text.strip_prefix('+')
 }
 
 // Where a new partition ends.
+#[tactic(auto, using(crate::proofs::Values::no_plus), unfolding(crate::specs::Words::end_in))]
 pub(crate) fn end_field(text: &str) -> Result<End, EditError>
-    ensures ok { IfOk result (IsEnd text.now) }
-    ensures err { IfErr result (Misfit end text.now) }
+    ensures { result ≡ end_in text.now }
 {
     if text == "0" {
         return Ok(End::Block);
     }
-    match text.strip_prefix('+') {
+    match after_plus(text) {
         Some(digits) => Ok(End::Length(number_in(digits, 1, u64::MAX)?)),
         None => Ok(End::At(number_in(text, 1, u64::MAX)?)),
     }
 }
 
 // A type's code.
+#[tactic(auto, unfolding(crate::specs::Words::code_in))]
 pub(crate) fn code_field(text: &str) -> Result<Code, EditError>
-    ensures ok { IfOk result (IsCode text.now) }
-    ensures err { IfErr result (Misfit code text.now) }
+    ensures { result ≡ code_in text.now }
 {
     // The parser also takes a plus in front.
     match text.as_bytes() {
@@ -166,9 +170,9 @@ pub(crate) fn code_field(text: &str) -> Result<Code, EditError>
 }
 
 // A GUID.
+#[tactic(auto, unfolding(crate::specs::Words::guid_in))]
 pub(crate) fn guid_field(text: &str) -> Result<Guid, EditError>
-    ensures ok { IfOk result (λ g. stored_of text.now ≡ Some g.0) }
-    ensures err { IfErr result (Misfit guid text.now) }
+    ensures { result ≡ guid_in text.now }
 {
     match pt_guid::parse(text) {
         Ok(guid) => Ok(guid),

@@ -1,16 +1,16 @@
 //! Words from their texts.
 
-ghost use Rattle.std.specs.Prelude.{◌≡◌, ◌≢◌, ◌<◌, ℕ, IfOk, IfErr, IfSome, IfNone, [], ◌∷◌};
+ghost use Rattle.std.specs.Prelude.{◌≡◌, ◌≢◌, ℕ, IfOk, IfErr, IfSome, IfNone, [], ◌∷◌};
 ghost use Rattle.std.specs.Option.{option_map};
-ghost use Rattle.pt_words.specs.Words.{fields, IsWord, IsFault, IsNaming, IsWordFault};
-ghost use Rattle.pt_words.specs.inner.Words.{fields_after};
+ghost use Rattle.pt_words.specs.Words.{fields, word_with, word_of, IsWord, IsNaming, IsWordFault};
+ghost use Rattle.pt_words.specs.inner.Words.{fields_after, Answers};
 
 use crate::error::EditError;
 use crate::field::next_field;
 use crate::word::Edit;
 use crate::words::{
-    parse_align, parse_delete, parse_empty, parse_extend, parse_new, parse_set_bit, parse_set_disk,
-    parse_set_kind, parse_set_name, parse_set_unique, parse_to_gpt,
+    alone, parse_align, parse_delete, parse_new, parse_set_bit, parse_set_disk, parse_set_kind,
+    parse_set_name, parse_set_unique,
 };
 use std::alloc::Global;
 
@@ -26,11 +26,9 @@ fn only_byte(text: &str) -> Option<u8>
 }
 
 // The word of a letter and the fields behind it.
+#[tactic(auto, unfolding(crate::specs::Words::word_with))]
 fn parse_word(alloc: Global, letter: u8, rest: Option<&str>) -> Result<Edit, EditError>
-    ensures ok { IfOk result (IsWord ((letter ∷ []) ∷ fields_after (option_map (λ t. t.now) rest.entry))) }
-    ensures err { IfErr result (λ e. e ≢ EditError.Memory → IsFault (letter ∷ []) (fields_after (option_map (λ t. t.now) rest.entry)) e) }
-    ensures memory { IfErr result (λ e. e ≡ EditError.Memory
-        → IsNaming ((letter ∷ []) ∷ fields_after (option_map (λ t. t.now) rest.entry))) }
+    ensures { Answers (word_with letter (fields_after (option_map (λ t. t.now) rest.entry))) result }
 {
     match letter {
         b'a' => parse_align(rest),
@@ -41,21 +39,17 @@ fn parse_word(alloc: Global, letter: u8, rest: Option<&str>) -> Result<Edit, Edi
         b'u' => parse_set_unique(rest),
         b'U' => parse_set_disk(rest),
         b'A' => parse_set_bit(rest),
-        b'e' => parse_extend(rest),
-        b'g' => parse_to_gpt(rest),
-        b'o' => parse_empty(rest),
+        b'e' => alone(rest, Edit::Extend),
+        b'g' => alone(rest, Edit::ToGpt),
+        b'o' => alone(rest, Edit::Empty),
         _ => Err(EditError::UnknownLetter),
     }
 }
 
-/// The word that a text is (docs/commands.md).
-///
-/// Its fields stand between colons; the first is its letter, and the name of `c` is all that follows the second colon. Numbers are
-/// decimal without a zero in front and fit 64 bits. Memory is taken for a name alone.
-pub fn parse_edit(alloc: Global, text: &str) -> Result<Edit, EditError>
-    ensures ok { IfOk result (IsWord (fields text.now)) }
-    ensures err { IfErr result (λ e. e ≢ EditError.Memory → IsWordFault (fields text.now) e) }
-    ensures memory { IfErr result (λ e. e ≡ EditError.Memory → IsNaming (fields text.now)) }
+// The word of a text.
+#[tactic(auto, using(crate::proofs::Cuts::some_field, crate::proofs::Cuts::no_letter), unfolding(crate::specs::Words::word_of))]
+fn parse_text(alloc: Global, text: &str) -> Result<Edit, EditError>
+    ensures { Answers (word_of (fields text.now)) result }
 {
     let (letter, rest) = match next_field(Some(text)) {
         Some(parts) => parts,
@@ -65,4 +59,17 @@ pub fn parse_edit(alloc: Global, text: &str) -> Result<Edit, EditError>
         Some(letter) => parse_word(alloc, letter, rest),
         None => Err(EditError::UnknownLetter),
     }
+}
+
+/// The word that a text is (docs/commands.md).
+///
+/// Its fields stand between colons; the first is its letter, and the name of `c` is all that follows the second colon. Numbers are
+/// decimal without a zero in front and fit 64 bits. Memory is taken for a name alone.
+#[tactic(auto, using(crate::proofs::Answered::ok_answer, crate::proofs::Answered::err_answer, crate::proofs::Answered::memory_answer))]
+pub fn parse_edit(alloc: Global, text: &str) -> Result<Edit, EditError>
+    ensures ok { IfOk result (IsWord (fields text.now)) }
+    ensures err { IfErr result (λ e. e ≢ EditError.Memory → IsWordFault (fields text.now) e) }
+    ensures memory { IfErr result (λ e. e ≡ EditError.Memory → IsNaming (word_of (fields text.now))) }
+{
+    parse_text(alloc, text)
 }

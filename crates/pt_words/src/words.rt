@@ -1,16 +1,17 @@
 //! Words by their letters.
 
-ghost use Rattle.std.specs.Prelude.{◌≡◌, ◌≢◌, length, IfOk, IfErr, [], ◌∷◌};
+ghost use Rattle.std.specs.Prelude.{◌≡◌, IfOk, IfErr, Ok, Err};
 ghost use Rattle.std.specs.Option.{option_map};
-ghost use Rattle.pt_words.specs.inner.Words.{fields_after};
-ghost use Rattle.pt_words.specs.Words.{IsWord, IsFault, IsNaming};
+ghost use Rattle.pt_words.specs.Words.{align_of, new_of, delete_of, kind_of, name_of, unique_of, disk_of, bit_of, code_or_none};
+ghost use Rattle.pt_words.specs.Words as words;
+ghost use Rattle.pt_words.specs.inner.Words.{fields_after, Answers};
 
 use crate::error::EditError;
 use crate::field::{
     code_field, end_field, entry_number, guid_field, new_path_field, next_field, number_in,
     one_field, path_field, three_fields, two_fields,
 };
-use crate::word::Edit;
+use crate::word::{Code, Edit};
 use std::alloc::Global;
 
 // How many bits an attribute word has, less one.
@@ -20,54 +21,54 @@ const LAST_BIT: u64 = 63;
 const GREATEST_ALIGNMENT: u64 = 65536;
 
 // `a:K`.
+#[tactic(auto, unfolding(crate::specs::Words::align_of))]
 pub(crate) fn parse_align(rest: Option<&str>) -> Result<Edit, EditError>
-    ensures ok { IfOk result (IsWord ((97 ∷ []) ∷ fields_after (option_map (λ t. t.now) rest.entry))) }
-    ensures err { IfErr result (IsFault (97 ∷ []) (fields_after (option_map (λ t. t.now) rest.entry))) }
+    ensures { Answers (align_of (fields_after (option_map (λ t. t.now) rest.entry))) result }
 {
     let sectors = one_field(rest)?;
     Ok(Edit::Align(number_in(sectors, 1, GREATEST_ALIGNMENT)?))
 }
 
 // `d:PATH`.
+#[tactic(auto, unfolding(crate::specs::Words::delete_of))]
 pub(crate) fn parse_delete(rest: Option<&str>) -> Result<Edit, EditError>
-    ensures ok { IfOk result (IsWord ((100 ∷ []) ∷ fields_after (option_map (λ t. t.now) rest.entry))) }
-    ensures err { IfErr result (IsFault (100 ∷ []) (fields_after (option_map (λ t. t.now) rest.entry))) }
+    ensures { Answers (delete_of (fields_after (option_map (λ t. t.now) rest.entry))) result }
 {
     let path = one_field(rest)?;
     Ok(Edit::Delete(path_field(path)?))
 }
 
 // `t:PATH:CODE`.
+#[tactic(auto, unfolding(crate::specs::Words::kind_of))]
 pub(crate) fn parse_set_kind(rest: Option<&str>) -> Result<Edit, EditError>
-    ensures ok { IfOk result (IsWord ((116 ∷ []) ∷ fields_after (option_map (λ t. t.now) rest.entry))) }
-    ensures err { IfErr result (IsFault (116 ∷ []) (fields_after (option_map (λ t. t.now) rest.entry))) }
+    ensures { Answers (kind_of (fields_after (option_map (λ t. t.now) rest.entry))) result }
 {
     let (path, code) = two_fields(rest)?;
     Ok(Edit::SetKind(path_field(path)?, code_field(code)?))
 }
 
 // `u:NUM:GUID`.
+#[tactic(auto, unfolding(crate::specs::Words::unique_of))]
 pub(crate) fn parse_set_unique(rest: Option<&str>) -> Result<Edit, EditError>
-    ensures ok { IfOk result (IsWord ((117 ∷ []) ∷ fields_after (option_map (λ t. t.now) rest.entry))) }
-    ensures err { IfErr result (IsFault (117 ∷ []) (fields_after (option_map (λ t. t.now) rest.entry))) }
+    ensures { Answers (unique_of (fields_after (option_map (λ t. t.now) rest.entry))) result }
 {
     let (number, guid) = two_fields(rest)?;
     Ok(Edit::SetUnique(entry_number(number)?, guid_field(guid)?))
 }
 
 // `U:GUID`.
+#[tactic(auto, unfolding(crate::specs::Words::disk_of))]
 pub(crate) fn parse_set_disk(rest: Option<&str>) -> Result<Edit, EditError>
-    ensures ok { IfOk result (IsWord ((85 ∷ []) ∷ fields_after (option_map (λ t. t.now) rest.entry))) }
-    ensures err { IfErr result (IsFault (85 ∷ []) (fields_after (option_map (λ t. t.now) rest.entry))) }
+    ensures { Answers (disk_of (fields_after (option_map (λ t. t.now) rest.entry))) result }
 {
     let guid = one_field(rest)?;
     Ok(Edit::SetDisk(guid_field(guid)?))
 }
 
 // `A:NUM:BIT:V`.
+#[tactic(auto, unfolding(crate::specs::Words::bit_of))]
 pub(crate) fn parse_set_bit(rest: Option<&str>) -> Result<Edit, EditError>
-    ensures ok { IfOk result (IsWord ((65 ∷ []) ∷ fields_after (option_map (λ t. t.now) rest.entry))) }
-    ensures err { IfErr result (IsFault (65 ∷ []) (fields_after (option_map (λ t. t.now) rest.entry))) }
+    ensures { Answers (bit_of (fields_after (option_map (λ t. t.now) rest.entry))) result }
 {
     let (entry, bit, value) = three_fields(rest)?;
     let number = entry_number(entry)?;
@@ -76,104 +77,78 @@ pub(crate) fn parse_set_bit(rest: Option<&str>) -> Result<Edit, EditError>
     Ok(Edit::SetBit(number, place as u8, set == 1))
 }
 
-// `e`.
-pub(crate) fn parse_extend(rest: Option<&str>) -> Result<Edit, EditError>
-    ensures ok { IfOk result (IsWord ((101 ∷ []) ∷ fields_after (option_map (λ t. t.now) rest.entry))) }
-    ensures err { IfErr result (IsFault (101 ∷ []) (fields_after (option_map (λ t. t.now) rest.entry))) }
+// A letter alone, as `e`, `g` or `o`.
+#[tactic(auto, using(crate::proofs::Cuts::not_alone), unfolding(crate::specs::Words::alone))]
+pub(crate) fn alone(rest: Option<&str>, word: Edit) -> Result<Edit, EditError>
+    ensures { Answers (words.alone word (fields_after (option_map (λ t. t.now) rest.entry))) result }
 {
     match rest {
-        None => Ok(Edit::Extend),
+        None => Ok(word),
         Some(_) => Err(EditError::FieldCount),
     }
 }
 
-// `g`.
-pub(crate) fn parse_to_gpt(rest: Option<&str>) -> Result<Edit, EditError>
-    ensures ok { IfOk result (IsWord ((103 ∷ []) ∷ fields_after (option_map (λ t. t.now) rest.entry))) }
-    ensures err { IfErr result (IsFault (103 ∷ []) (fields_after (option_map (λ t. t.now) rest.entry))) }
+// The fields of `c`: a number, and the rest of the word as the name.
+#[tactic(auto, using(crate::proofs::Cuts::named_text))]
+fn name_fields<'a>(rest: Option<&'a str>) -> Result<(&'a str, &'a str), EditError>
+    ensures ok { IfOk result (λ f. words.named_of (fields_after (option_map (λ t. t.now) rest.entry)) ≡ Ok (f.0.now, f.1.now)) }
+    ensures err { IfErr result (λ e. words.named_of (fields_after (option_map (λ t. t.now) rest.entry)) ≡ Err e) }
 {
-    match rest {
-        None => Ok(Edit::ToGpt),
-        Some(_) => Err(EditError::FieldCount),
-    }
+    let (number, rest) = next_field(rest).ok_or(EditError::FieldCount)?;
+    let name = rest.ok_or(EditError::FieldCount)?;
+    Ok((number, name))
 }
 
-// `o`.
-pub(crate) fn parse_empty(rest: Option<&str>) -> Result<Edit, EditError>
-    ensures ok { IfOk result (IsWord ((111 ∷ []) ∷ fields_after (option_map (λ t. t.now) rest.entry))) }
-    ensures err { IfErr result (IsFault (111 ∷ []) (fields_after (option_map (λ t. t.now) rest.entry))) }
-{
-    match rest {
-        None => Ok(Edit::Empty),
-        Some(_) => Err(EditError::FieldCount),
-    }
-}
-
-// `c:NUM:NAME`. The name is the rest of the word.
+// `c:NUM:NAME`.
+#[tactic(auto, unfolding(crate::specs::Words::name_of))]
 pub(crate) fn parse_set_name(alloc: Global, rest: Option<&str>) -> Result<Edit, EditError>
-    ensures ok { IfOk result (IsWord ((99 ∷ []) ∷ fields_after (option_map (λ t. t.now) rest.entry))) }
-    ensures err { IfErr result (λ e. e ≢ EditError.Memory → IsFault (99 ∷ []) (fields_after (option_map (λ t. t.now) rest.entry)) e) }
-    ensures memory { IfErr result (λ e. e ≡ EditError.Memory → IsNaming ((99 ∷ []) ∷ fields_after (option_map (λ t. t.now) rest.entry))) }
+    ensures { Answers (name_of (fields_after (option_map (λ t. t.now) rest.entry))) result }
 {
-    let (number, rest) = match next_field(rest) {
-        Some((number, rest)) => (number, rest),
-        None => return Err(EditError::FieldCount),
-    };
-    let name = match rest {
-        Some(name) => name,
-        None => return Err(EditError::FieldCount),
-    };
+    let (number, name) = name_fields(rest)?;
     let entry = entry_number(number)?;
     let name = String::from_str(alloc, name)?;
     Ok(Edit::SetName(entry, name))
 }
 
-// `n:NUM:START:END` without a type.
-fn parse_place(path: &str, start: &str, end: &str) -> Result<Edit, EditError>
-    ensures ok { IfOk result (IsWord ((110 ∷ []) ∷ path.now ∷ start.now ∷ end.now ∷ [])) }
-    ensures err { IfErr result (IsFault (110 ∷ []) (path.now ∷ start.now ∷ end.now ∷ [])) }
+// The type behind a fourth colon, if there is one.
+#[tactic(auto, unfolding(crate::specs::Words::code_or_none))]
+fn typed(text: Option<&str>) -> Result<Option<Code>, EditError>
+    ensures { result ≡ code_or_none (option_map (λ t. t.now) text.entry) }
 {
-    let path = new_path_field(path)?;
-    let start = number_in(start, 0, u64::MAX)?;
-    let end = end_field(end)?;
-    Ok(Edit::New {
-        path,
-        start,
-        end,
-        code: None,
-    })
+    match text {
+        None => Ok(None),
+        Some(text) => Ok(Some(code_field(text)?)),
+    }
 }
 
-// `n:NUM:START:END:CODE`.
-fn parse_typed(rest: Option<&str>) -> Result<Edit, EditError>
-    requires { length (fields_after (option_map (λ t. t.now) rest)) ≢ 3 }
-    ensures ok { IfOk result (IsWord ((110 ∷ []) ∷ fields_after (option_map (λ t. t.now) rest.entry))) }
-    ensures err { IfErr result (IsFault (110 ∷ []) (fields_after (option_map (λ t. t.now) rest.entry))) }
+// The fields of `n`: three, and a type where there is a fourth.
+fn place_fields<'a>(
+    rest: Option<&'a str>,
+) -> Result<(&'a str, &'a str, &'a str, Option<&'a str>), EditError>
+    ensures ok { IfOk result (λ f. words.place_of (fields_after (option_map (λ t. t.now) rest.entry))
+        ≡ Ok (f.0.now, f.1.now, f.2.now, option_map (λ t. t.now) f.3)) }
+    ensures err { IfErr result (λ e. words.place_of (fields_after (option_map (λ t. t.now) rest.entry)) ≡ Err e) }
 {
-    let (path, rest) = match next_field(rest) {
-        Some((path, rest)) => (path, rest),
-        None => return Err(EditError::FieldCount),
-    };
-    let (first, last, code) = three_fields(rest)?;
-    let path = new_path_field(path)?;
-    let start = number_in(first, 0, u64::MAX)?;
-    let end = end_field(last)?;
-    let code = Some(code_field(code)?);
-    Ok(Edit::New {
-        path,
-        start,
-        end,
-        code,
-    })
+    match three_fields(rest) {
+        Ok((path, start, end)) => Ok((path, start, end, None)),
+        Err(_) => {
+            let (path, rest) = next_field(rest).ok_or(EditError::FieldCount)?;
+            let (start, end, code) = three_fields(rest)?;
+            Ok((path, start, end, Some(code)))
+        }
+    }
 }
 
 // `n:NUM:START:END[:CODE]`.
+#[tactic(auto, unfolding(crate::specs::Words::new_of))]
 pub(crate) fn parse_new(rest: Option<&str>) -> Result<Edit, EditError>
-    ensures ok { IfOk result (IsWord ((110 ∷ []) ∷ fields_after (option_map (λ t. t.now) rest.entry))) }
-    ensures err { IfErr result (IsFault (110 ∷ []) (fields_after (option_map (λ t. t.now) rest.entry))) }
+    ensures { Answers (new_of (fields_after (option_map (λ t. t.now) rest.entry))) result }
 {
-    match three_fields(rest) {
-        Ok((path, start, end)) => parse_place(path, start, end),
-        Err(_) => parse_typed(rest),
-    }
+    let (path, start, end, code) = place_fields(rest)?;
+    Ok(Edit::New {
+        path: new_path_field(path)?,
+        start: number_in(start, 0, u64::MAX)?,
+        end: end_field(end)?,
+        code: typed(code)?,
+    })
 }

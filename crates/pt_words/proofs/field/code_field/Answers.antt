@@ -1,33 +1,18 @@
-use Rattle.std.proofs.Common.{◌≡◌, ◌≢◌, ◌<◌, ℕ, List, [], ◌∷◌, length, get_or, refl, subst, arith}
-use Rattle.std.specs.Char.{digit_value}
-use Rattle.pt_words.specs.Words.{Fits, code}
-use Rattle.pt_words.specs.declared.word.Code.TheVariants.{Two, Four}
+use Rattle.std.proofs.Common.{arith}
+use Rattle.std.proofs.lemmas.Bool.Decides.{nat_tests}
+use Rattle.pt_words.proofs.Values.{read_two, read_four, unread_code}
 use Rattle.pt_words.proofs.field.code_field.Goals as goal
 
--- a plus is no hexadecimal digit
-plus_no_digit : (c : ℕ) → c ≡ 43 → digit_value c < 16 → ⊥
-plus_no_digit c plus digit = let d = subst (λ (k : ℕ). digit_value k < 16) plus digit in omega (arith, d)
+pub returns-in-Err : goal.returns-in-Err
+returns-in-Err c = unread_code c.args.text.now 2 8 (omega arith) (omega arith) (omega arith) c.in-Err.ensures.value
 
-plus_first : (text : List ℕ) → get_or text 0 0 ≡ 43 → Fits code text → ⊥
-plus_first [] plus fits = absurd (omega (arith, plus))
-plus_first (c ∷ text) plus (Two n, is) = plus_no_digit c plus is.digits.0
-plus_first (c ∷ text) plus (Four n, is) = plus_no_digit c plus is.digits.0
+pub returns-in-Err-from_str_radix : goal.returns-in-Err-from_str_radix
+returns-in-Err-from_str_radix c =
+    unread_code c.args.text.now 4 16 (omega arith) (omega arith) (omega arith) c.in-Err-from_str_radix.ensures.value
 
-plus_no_code : (text bytes : List ℕ) → bytes ≡ text → get_or bytes 0 0 ≡ 43 → Fits code text → ⊥
-plus_no_code text bytes same plus = plus_first text (subst (λ (t : List ℕ). get_or t 0 0 ≡ 43) same plus)
+pub returns-in-Ok : goal.returns-in-Ok
+returns-in-Ok c = read_two c.args.text.now c.in-Ok.digits (omega arith) (grind (arith, nat_tests)) c.in-Ok.ensures.value
 
-count_no_code : (text : List ℕ) → length text ≢ 2 → length text ≢ 4 → Fits code text → ⊥
-count_no_code text two four (Two n, is) = two is.len
-count_no_code text two four (Four n, is) = four is.len
-
-pub returns-in-43-clause-err : goal.returns-in-43-clause-err
-returns-in-43-clause-err c = (plus_no_code c.args.text.now c.as_bytes.result.now c.as_bytes.ensures.value (omega arith), refl)
-
-pub returns-in-43-2-clause-err : goal.returns-in-43-2-clause-err
-returns-in-43-2-clause-err c = (plus_no_code c.args.text.now c.as_bytes.result.now c.as_bytes.ensures.value (omega arith), refl)
-
-pub returns-in-43-3-clause-err : goal.returns-in-43-3-clause-err
-returns-in-43-3-clause-err c = (plus_no_code c.args.text.now c.as_bytes.result.now c.as_bytes.ensures.value (omega arith), refl)
-
-pub returns-in_default-clause-err : goal.returns-in_default-clause-err
-returns-in_default-clause-err c = (count_no_code c.args.text.now (omega arith) (omega arith), refl)
+pub returns-in-Ok-from_str_radix : goal.returns-in-Ok-from_str_radix
+returns-in-Ok-from_str_radix c =
+    read_four c.args.text.now c.in-Ok-from_str_radix.digits (omega arith) (grind (arith, nat_tests)) c.in-Ok-from_str_radix.ensures.value
