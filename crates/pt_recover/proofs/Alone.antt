@@ -1,12 +1,11 @@
 -- What one side's copy gives alone.
-use Rattle.std.proofs.Common.{◌≡◌, ◌∙◌, ℕ, List, length, Option, Some, refl, sym, ap, subst, inl, inr}
+use Rattle.std.proofs.Common.{◌≡◌, ◌∙◌, ℕ, List, length, Some, refl, sym, ap, subst, inl, inr}
 use Rattle.std.specs.Prelude.{◌⊎◌}
 use Rattle.pt_sector.specs.Overlays.{FailedIn as FailedAt, fault_of}
 use Rattle.pt_sector.specs.Sectors.{Sectors}
-use Rattle.pt_sector.specs.declared.disk.Fault.{Fault}
 use Rattle.pt_sector.specs.declared.reading.Failure.{Failure}
 use Rattle.pt_sector.specs.declared.reading.Failure.TheVariants as failure
-use Rattle.pt_gpt.specs.Copies.{Copy as CopyOf, FailedInCopy, SideReads, HasRoom, IsCopyFault, TellsFault, fault_in as fault_in_copy}
+use Rattle.pt_gpt.specs.Copies.{Copy as CopyOf, FailedInCopy, SideReads, HasRoom, TellsFault, fault_in as fault_in_copy}
 use Rattle.pt_gpt.specs.declared.error.CopyError.{CopyError}
 use Rattle.pt_gpt.specs.declared.error.CopyError.TheVariants as copy
 use Rattle.pt_gpt.specs.declared.table.Side.{Side}
@@ -15,14 +14,13 @@ use Rattle.pt_gpt.specs.declared.table.Table.{Table}
 use Rattle.pt_gpt.proofs.Terms.{copy_is_one_lem}
 use Rattle.pt_members.specs.Members.{places_of, IsPlace}
 use Rattle.pt_members.specs.declared.layout.Body.{Body}
-use Rattle.pt_members.specs.declared.layout.Body.TheVariants.{Gpt, Mbr}
+use Rattle.pt_members.specs.declared.layout.Body.TheVariants.{Gpt}
 use Rattle.pt_members.specs.declared.layout.Labelled.{Labelled}
 use Rattle.pt_members.specs.declared.layout.Layout.{Layout}
 use Rattle.pt_members.specs.declared.layout.Slice.{Slice}
 use Rattle.pt_recover.specs.Denotes.{Denotes, BodyIs, LabelsAre, TableIs}
 use Rattle.pt_recover.specs.FromSides.{FailedInSide, FromSideReads, of_copy, of_label, SideGives, SideGivesNone, side_fault_in}
 use Rattle.pt_recover.specs.FromSides.{told_copy, told_side_failure}
-use Rattle.pt_recover.specs.declared.side.SideError.{SideError}
 use Rattle.pt_recover.proofs.One.{labels_one}
 
 -- one layout at most

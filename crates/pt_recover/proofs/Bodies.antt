@@ -1,5 +1,5 @@
 -- What is read of a body.
-use Rattle.std.proofs.Common.{◌≡◌, ◌≢◌, ◌<◌, ℕ, List, length, Option, None, refl, sym, ◌∙◌, subst, arith, inl, inr}
+use Rattle.std.proofs.Common.{◌≡◌, ◌≢◌, ◌<◌, ℕ, List, length, Option, Some, None, refl, sym, ◌∙◌, subst, arith, inl, inr}
 use Rattle.std.specs.Prelude.{◌⊎◌}
 use Rattle.pt_sector.specs.Sectors.{Sectors}
 use Rattle.pt_mbr.specs.declared.record.Record.{Record}
@@ -7,12 +7,14 @@ use Rattle.pt_gpt.proofs.Terms.{no_copy_lem}
 use Rattle.pt_gpt.specs.declared.table.Side.TheVariants.{Primary, Backup}
 use Rattle.pt_mbr.specs.Records.{extended_of}
 use Rattle.pt_recover.specs.Denotes.{IsMbrDisk, IsMbr, ExtendedReads, TableReads, Denotes, BodyReads, head, chain, table, TellsNothing}
-use Rattle.pt_recover.specs.Denotes.{IsOutsideDisk}
-use Rattle.pt_gpt.specs.Copies.{HasRoom}
+use Rattle.pt_recover.specs.Denotes.{TableIs, StandsAs}
+use Rattle.pt_gpt.specs.Copies.{HasRoom, IsCopyFault}
+use Rattle.pt_gpt.specs.declared.error.CopyError.{CopyError}
+use Rattle.pt_gpt.specs.declared.header.Header.{Header}
+use Rattle.pt_gpt.specs.declared.table.Table.{Table}
 use Rattle.pt_recover.proofs.One.{mbr_one}
-use Rattle.pt_recover.specs.inner.Denotes.{RestReads, of_chain, of_table, AreCopyFaults}
+use Rattle.pt_recover.specs.inner.Denotes.{RestReads, of_chain, of_table}
 use Rattle.pt_recover.specs.Spans.{Adds}
-use Rattle.pt_recover.specs.declared.error.NoTable.{NoTable}
 use Rattle.pt_recover.specs.declared.error.NoTable.TheVariants.{NoCopy, TooSmall}
 use Rattle.pt_members.specs.declared.layout.Body.TheVariants.{Mbr, Gpt}
 use Rattle.pt_recover.specs.declared.trace.TracedRun.{TracedRun}
@@ -42,24 +44,22 @@ pub rest_gpt : (b : ℕ) (d : Sectors) (old new : List TracedRun) → ¬ IsMbrDi
 rest_gpt b d old new none room adds =
     adds_same old new (TableReads b d) (RestReads b d) adds (λ s. (of_gpt b d s none, λ reads. of_table none room reads))
 
-pub rest_gpt_or : (P : Type 0) (b : ℕ) (d : Sectors) (old new : List TracedRun) → ¬ IsMbrDisk d → HasRoom b (length d)
-    → P ⊎ Adds old new (TableReads b d) → P ⊎ Adds old new (RestReads b d)
-rest_gpt_or P b d old new none room (inl out) = inl out
-rest_gpt_or P b d old new none room (inr adds) = inr (rest_gpt b d old new none room adds)
-
 -- neither copy
-no_body : (b : ℕ) (d : Sectors) (e : NoTable) → ¬ IsMbrDisk d → AreCopyFaults b d e → Denotes b d None
-no_body b d (NoCopy e f) none faults (Mbr records ebrs) is = none is.0.0
-no_body b d (NoCopy e f) none faults (Gpt t) is =
-    elim is.2 [ inl copy ↦ no_copy_lem b d Primary e faults.0 (t, copy) | inr other ↦ no_copy_lem b d Backup f faults.1 (t, other.1) ]
-no_body b d _ none faults y is = absurd faults
+no_body : (b : ℕ) (d : Sectors) (e f : CopyError) → ¬ IsMbrDisk d → IsCopyFault b d Primary e → IsCopyFault b d Backup f → Denotes b d None
+no_body b d e f none first second (Mbr records ebrs) is = none is.0.0
+no_body b d e f none first second (Gpt t) is =
+    elim is.2 [ inl copy ↦ no_copy_lem b d Primary e first (t, copy) | inr other ↦ no_copy_lem b d Backup f second (t, other.1) ]
 
-pub no_copies : (b : ℕ) (d : Sectors) (e : NoTable) → ¬ IsMbrDisk d → HasRoom b (length d) → IsOutsideDisk e ⊎ AreCopyFaults b d e
-    → TellsNothing b d e
-no_copies b d e none room (inl out) = inl out
-no_copies b d (NoCopy e f) none room (inr faults) =
-    inr (no_body b d (NoCopy e f) none faults, (none, room, faults.0, faults.1))
-no_copies b d _ none room (inr faults) = absurd faults
+pub no_copies : (b : ℕ) (d : Sectors) (e f : CopyError) → ¬ IsMbrDisk d → HasRoom b (length d) → IsCopyFault b d Primary e
+    → IsCopyFault b d Backup f → TellsNothing b d (NoCopy e f)
+no_copies b d e f none room first second = inr (no_body b d e f none first second, (none, room, first, second))
+
+-- the table of the copy that decides it
+pub found_table : (b : ℕ) (d : Sectors) (o : Option CopyError) (h : Header) (t : Table) → HasRoom b (length d) → StandsAs b d o h t
+    → TableIs b d t
+found_table b d None h t room is = inl (record { room = room; head = h; stands = is })
+found_table b d (Some e) h t room is =
+    inr (no_copy_lem b d Primary e is.0, record { room = room; head = h; stands = is.1 })
 
 small_body : (b : ℕ) (d : Sectors) → ¬ IsMbrDisk d → ¬ HasRoom b (length d) → Denotes b d None
 small_body b d none small (Mbr records ebrs) is = none is.0.0

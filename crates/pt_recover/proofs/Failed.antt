@@ -36,14 +36,21 @@ failed_wider : (S T : ℕ → Type 0) (f : Failure) → ((s : ℕ) → S s → T
 failed_wider S T (failure.Device at) more is = more at.0 is
 failed_wider S T failure.Memory more is = tt
 
--- and of a copy's
-pub told_wider : (S T : ℕ → Type 0) (e : CopyError) (f : Failure) → ((s : ℕ) → S s → T s) → failure_of_copy e ≡ Some f
-    → FailedInCopy S e → FailedInDisk T (told_failure f)
-told_wider S T (copy.Device at) (failure.Device y) more same is = let here : at ≡ y = cc in more y.0 (subst (λ (l : Lba). S l.0) here is)
-told_wider S T (copy.Device at) failure.Memory more same is = tt
-told_wider S T copy.Memory (failure.Device y) more same is = absurd cc
-told_wider S T copy.Memory failure.Memory more same is = tt
-told_wider S T _ f more same is = absurd cc
+-- a copy's failure
+pub told_failed : (S : ℕ → Type 0) (e : CopyError) (f : Failure) → failure_of_copy e ≡ Some f → FailedInCopy S e → FailedAt S f
+told_failed S (copy.Device at) (failure.Device y) told is = (let here : at ≡ y = cc in subst (λ (l : Lba). S l.0) here is)
+told_failed S (copy.Device at) failure.Memory told is = tt
+told_failed S copy.Memory (failure.Device y) told is = absurd cc
+told_failed S copy.Memory failure.Memory told is = tt
+told_failed S _ f told is = absurd cc
+
+-- and what a failure of both sides is
+pub primary_failed : (b : ℕ) (d : Sectors) (f : Failure) → FailedAt (SideReads b d Primary) f → FailedAt (TableReads b d) f
+primary_failed b d f = failed_more (SideReads b d Primary) (TableReads b d) f (λ s reads. inl reads)
+
+pub backup_failed : (b : ℕ) (d : Sectors) (f : Failure) → ¬ HasCopy b d Primary → FailedAt (SideReads b d Backup) f
+    → FailedAt (TableReads b d) f
+backup_failed b d f none = failed_more (SideReads b d Backup) (TableReads b d) f (λ s reads. inr (none, reads))
 
 -- an error that is no failure
 pub inside_of : (e : CopyError) → failure_of_copy e ≡ None → ¬ IsOutsideCopy e
@@ -55,9 +62,9 @@ pub rest_of_chain : (b : ℕ) (d : Sectors) (m : List (Option Record)) (e : NoTa
     → FailedInDisk (ExtendedReads d (extended_of m)) e → FailedInDisk (RestReads b d) e
 rest_of_chain b d m e is = wider (ExtendedReads d (extended_of m)) (RestReads b d) e (λ s reads. of_chain m is reads)
 
-pub rest_of_table : (b : ℕ) (d : Sectors) (e : NoTable) → ¬ IsMbrDisk d → HasRoom b (length d) → FailedInDisk (TableReads b d) e
-    → FailedInDisk (RestReads b d) e
-rest_of_table b d e plain room = wider (TableReads b d) (RestReads b d) e (λ s reads. of_table plain room reads)
+pub rest_of_table : (b : ℕ) (d : Sectors) (f : Failure) → ¬ IsMbrDisk d → HasRoom b (length d) → FailedAt (TableReads b d) f
+    → FailedInDisk (RestReads b d) (told_failure f)
+rest_of_table b d f plain room = failed_wider (TableReads b d) (RestReads b d) f (λ s reads. of_table plain room reads)
 
 body_of_rest : (b : ℕ) (d : Sectors) (s : ℕ) → RestReads b d s → BodyReads b d s
 body_of_rest b d s (of_chain m is reads) = chain m is reads
@@ -65,14 +72,6 @@ body_of_rest b d s (of_table plain room reads) = table plain room reads
 
 pub body_failed : (b : ℕ) (d : Sectors) (e : NoTable) → FailedInDisk (RestReads b d) e → FailedInDisk (BodyReads b d) e
 body_failed b d e = wider (RestReads b d) (BodyReads b d) e (body_of_rest b d)
-
-pub primary_failed : (b : ℕ) (d : Sectors) (e : CopyError) (f : Failure) → failure_of_copy e ≡ Some f
-    → FailedInCopy (SideReads b d Primary) e → FailedInDisk (TableReads b d) (told_failure f)
-primary_failed b d e f = told_wider (SideReads b d Primary) (TableReads b d) e f (λ s reads. inl reads)
-
-pub backup_failed : (b : ℕ) (d : Sectors) (e : CopyError) (f : Failure) → ¬ HasCopy b d Primary → failure_of_copy e ≡ Some f
-    → FailedInCopy (SideReads b d Backup) e → FailedInDisk (TableReads b d) (told_failure f)
-backup_failed b d e f none = told_wider (SideReads b d Backup) (TableReads b d) e f (λ s reads. inr (none, reads))
 
 pub reads_failed : (b : ℕ) (d : Sectors) (e : NoTable) → FailedInDisk (BodyReads b d) e → FailedInDisk (Reads b d) e
 reads_failed b d e = wider (BodyReads b d) (Reads b d) e (λ s reads. body reads)

@@ -14,5 +14,6 @@ pub mod SameReads
 pub mod Searched
 pub mod Sides
 pub mod Terms
+pub mod Told
 pub mod Traces
 pub mod Whole

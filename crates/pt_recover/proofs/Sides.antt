@@ -4,7 +4,7 @@ use Rattle.std.specs.Prelude.{◌⊎◌}
 use Rattle.pt_sector.specs.Sectors.{Sectors}
 use Rattle.pt_gpt.specs.Copies.{IsOutsideCopy, TellsHeadFault, TellsFault, header_place, IsHead, InArray, Copy, HasCopy, IsCopyFault}
 use Rattle.pt_gpt.specs.Copies.{SideReads}
-use Rattle.pt_gpt.proofs.Terms.{side_reads_head_lem, side_reads_fault_lem, no_copy_lem}
+use Rattle.pt_gpt.proofs.Terms.{side_reads_head_lem, side_reads_fault_lem}
 use Rattle.pt_gpt.specs.declared.header.Header.{Header}
 use Rattle.pt_gpt.specs.declared.error.CopyError.{CopyError}
 use Rattle.pt_gpt.specs.declared.table.Side.{Side}
@@ -41,10 +41,6 @@ pub primary_read : (b : ℕ) (d : Sectors) (t : Table) (old new : List TracedRun
 primary_read b d t old new copy adds =
     adds_same old new (SideReads b d Primary) (TableReads b d) adds
     (λ s. (λ r. elim r [ inl here ↦ here | inr there ↦ absurd (there.0 (t, copy)) ], λ r. inl r))
-
-pub none_there : (b : ℕ) (d : Sectors) (e : CopyError) → TellsFault b d Primary e → ¬ IsOutsideCopy e → ¬ HasCopy b d Primary
-none_there b d e (inl out) inside = absurd (inside out)
-none_there b d e (inr fault) inside = no_copy_lem b d Primary e fault
 
 pub inside_fault : (b : ℕ) (d : Sectors) (side : Side) (e : CopyError) → TellsFault b d side e → ¬ IsOutsideCopy e → IsCopyFault b d side e
 inside_fault b d side e (inl out) inside = absurd (inside out)

@@ -1,11 +1,13 @@
 -- What a disk denotes, why it denotes nothing, and which sectors recovery reads.
-use Rattle.std.specs.Prelude.{◌≡◌, ◌<◌, ◌≤◌, ℕ, List, [], ◌∷◌, length, Option, ◌⊎◌, ◌↔◌, Some, None, ◌^◌, All}
+use Rattle.std.specs.Prelude.{◌≡◌, ◌<◌, ◌≤◌, ℕ, List, [], ◌∷◌, length, Option, ◌⊎◌, ◌↔◌, Some, None, ◌^◌, All, Result, Ok, Err}
 use Rattle.pt_sector.specs.Sectors.{Sectors, sector, Writes, Puts}
 use Rattle.pt_mbr.specs.Records.{IsMbrFormed, AreRecords, BearsProtective, extent_of, extended_of}
 use Rattle.pt_mbr.specs.Chain.{Chain, ChainReads, ChainFault, IsDevice}
 use Rattle.pt_mbr.specs.declared.record.Record.{Record}
 use Rattle.pt_mbr.specs.declared.ebr.Ebr.{Ebr}
-use Rattle.pt_gpt.specs.Copies.{Copy, HasCopy, SideReads, HasRoom, IsCopyFault}
+use Rattle.pt_gpt.specs.Copies.{Copy, HasCopy, CopyWith, SideReads, HasRoom, IsCopyFault}
+use Rattle.pt_gpt.specs.declared.error.CopyError.{CopyError}
+use Rattle.pt_gpt.specs.declared.header.Header.{Header}
 use Rattle.pt_gpt.specs.declared.table.Table.{Table}
 use Rattle.pt_gpt.specs.declared.table.Side.TheVariants.{Primary, Backup}
 use Rattle.pt_bsd.specs.Labels.{LabelBytes}
@@ -27,6 +29,9 @@ use Rattle.pt_recover.specs.Spans.{IsIn}
 use Rattle.pt_recover.specs.declared.error.NoTable.{NoTable}
 use Rattle.pt_recover.specs.declared.error.NoTable.TheVariants.{NoCopy, TwoExtended, TooSmall, Device, Memory}
 use Rattle.pt_recover.specs.declared.error.NoTable.TheVariants as no_table
+use Rattle.pt_recover.specs.declared.error.Reason.{Reason}
+use Rattle.pt_recover.specs.declared.error.Reason.TheVariants as reason
+use Rattle.pt_recover.specs.declared.tables.FoundCopy.{FoundCopy}
 use Rattle.pt_recover.specs.declared.trace.TracedRun.{TracedRun}
 
 -- ## An MBR disk, its records, and the chain of a lone extended one.
@@ -64,6 +69,19 @@ TableIs b d t = Copy b d Primary t ⊎ ((¬ HasCopy b d Primary) × Copy b d Bac
 -- the primary side's sectors, and where no primary copy exists, the backup side's
 abbrev pub TableReads : ℕ → Sectors → ℕ → Type 0
 TableReads b d s = SideReads b d Primary s ⊎ ((¬ HasCopy b d Primary) × SideReads b d Backup s)
+
+-- a copy that decides it: the primary one, or the backup where the primary side breaks this rule
+abbrev pub StandsAs : ℕ → Sectors → Option CopyError → Header → Table → Type 0
+StandsAs b d None h t = CopyWith b d Primary h t
+StandsAs b d (Some e) h t = IsCopyFault b d Primary e × CopyWith b d Backup h t
+
+abbrev pub FoundCopyIs : ℕ → Sectors → FoundCopy → Type 0
+FoundCopyIs b d c = StandsAs b d c.no_primary c.header c.table
+
+-- that copy, or the first fault of each
+abbrev pub EitherIs : ℕ → Sectors → Result FoundCopy (CopyError × CopyError) → Type 0
+EitherIs b d (Ok c) = FoundCopyIs b d c
+EitherIs b d (Err e) = IsCopyFault b d Primary e.0 × IsCopyFault b d Backup e.1
 
 -- ## What stands at the label places of slices.
 
@@ -131,11 +149,26 @@ IsOutsideDisk _ = ⊥
 abbrev pub TellsNothing : ℕ → Sectors → NoTable → Type 0
 TellsNothing b d e = IsOutsideDisk e ⊎ (Denotes b d None × IsReason b d e)
 
--- the failure that an answer is
-abbrev pub failure_in : NoTable → Option Failure
-failure_in (Device at) = Some (failure.Device at)
-failure_in Memory = Some failure.Memory
-failure_in _ = None
+-- the reason that an answer is, or the failure
+abbrev pub reason_in : NoTable → Result Reason Failure
+reason_in (NoCopy e f) = Ok (reason.NoCopy e f)
+reason_in (no_table.Chain e) = Ok (reason.Chain e)
+reason_in TwoExtended = Ok reason.TwoExtended
+reason_in TooSmall = Ok reason.TooSmall
+reason_in (Device at) = Err (failure.Device at)
+reason_in Memory = Err failure.Memory
+
+-- what recovery tells of a reason
+abbrev pub told_reason : Reason → NoTable
+told_reason (reason.NoCopy e f) = NoCopy e f
+told_reason (reason.Chain e) = no_table.Chain e
+told_reason reason.TwoExtended = TwoExtended
+told_reason reason.TooSmall = TooSmall
+
+-- what a reading finds: the layout that the disk denotes, or why it denotes nothing
+abbrev pub FoundIs : ℕ → Sectors → Result Layout Reason → Type 0
+FoundIs b d (Ok o) = Denotes b d (Some o)
+FoundIs b d (Err r) = Denotes b d None × IsReason b d (told_reason r)
 
 -- what recovery tells of a failure
 abbrev pub told_failure : Failure → NoTable

@@ -1,5 +1,5 @@
 -- What one side's copy of a GPT gives alone, whatever sector 0 and the other copy say.
-use Rattle.std.specs.Prelude.{◌≡◌, ℕ, length, List, ◌++◌, codes, Option, Some, None}
+use Rattle.std.specs.Prelude.{◌≡◌, ℕ, length, List, codes, Option, Some, None}
 use Rattle.pt_sector.specs.Sectors.{Sectors}
 use Rattle.pt_sector.specs.Sentences.{no_memory, unread}
 use Rattle.pt_sector.specs.declared.disk.Fault.{Fault}

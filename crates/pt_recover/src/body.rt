@@ -76,8 +76,10 @@ fn read_gpt<const B: usize, D: Disk<B>>(
     if !has_room::<B>(sectors) {
         return Err(NoTable::TooSmall);
     }
-    let table = read_either(alloc, disk, trace, last)?;
-    Ok(Body::Gpt(table))
+    match read_either(alloc, disk, trace, last)? {
+        Ok(found) => Ok(Body::Gpt(found.table)),
+        Err((primary, backup)) => Err(NoTable::NoCopy(primary, backup)),
+    }
 }
 
 // The records and the chain of an MBR disk.

@@ -1,7 +1,7 @@
 //! Why there is no layout.
 
 ghost use Rattle.std.specs.Prelude.{◌≡◌, Some};
-ghost use Rattle.pt_recover.specs.Denotes.{failure_in, told_chain, told_failure};
+ghost use Rattle.pt_recover.specs.Denotes.{reason_in, told_chain, told_failure, told_reason};
 ghost use Rattle.pt_recover.specs.declared.error.NoTable.TheVariants.{Device, Memory};
 ghost use Rattle.pt_recover.specs.Sentences.{no_table_sentence};
 
@@ -12,7 +12,20 @@ use std::alloc::AllocError;
 use std::error::Error;
 use std::fmt;
 
-/// Why recovery gives no layout. All but the last two are reported exactly where the disk denotes nothing for that reason.
+/// Why a disk denotes nothing: by what is on it, so that no failure is among these.
+#[derive(Clone, Copy, Debug, PartialEq, Eq)]
+pub enum Reason {
+    /// It is no MBR disk, and neither the primary nor the backup copy of a GPT exists: the first fault of each.
+    NoCopy(CopyError, CopyError),
+    /// It is an MBR disk with one extended partition, whose chain has this first fault.
+    Chain(ChainError),
+    /// It is an MBR disk with two or more extended partitions. Neither's chain is read.
+    TwoExtended,
+    /// It is no MBR disk, and has fewer sectors than a GPT takes with one usable one: 68 of 512 bytes, or 12 of 4096.
+    TooSmall,
+}
+
+/// Why recovery gives no layout: a [`Reason`], exactly where the disk denotes nothing for it, or one of two failures.
 #[derive(Clone, Copy, Debug, PartialEq, Eq)]
 pub enum NoTable {
     /// It is no MBR disk, and neither the primary nor the backup copy of a GPT exists: the first fault of each.
@@ -87,15 +100,31 @@ impl From<Failure> for NoTable {
     }
 }
 
+impl From<Reason> for NoTable {
+    ghost from_gives = { λ reason e. e ≡ told_reason reason };
+
+    fn from(reason: Reason) -> NoTable {
+        match reason {
+            Reason::NoCopy(primary, backup) => NoTable::NoCopy(primary, backup),
+            Reason::Chain(error) => NoTable::Chain(error),
+            Reason::TwoExtended => NoTable::TwoExtended,
+            Reason::TooSmall => NoTable::TooSmall,
+        }
+    }
+}
+
 impl NoTable {
-    /// The failure that it is, if what is on the disk doesn't explain it: of `Device` and `Memory`.
-    pub fn failure(self) -> Option<Failure>
-        ensures { result ≡ failure_in self }
+    /// Why the disk denotes nothing, or the failure that kept recovery from telling: of `Device` and `Memory`.
+    pub fn reason(self) -> Result<Reason, Failure>
+        ensures { result ≡ reason_in self }
     {
         match self {
-            NoTable::Device(at) => Some(Failure::Device(at)),
-            NoTable::Memory => Some(Failure::Memory),
-            _ => None,
+            NoTable::NoCopy(primary, backup) => Ok(Reason::NoCopy(primary, backup)),
+            NoTable::Chain(error) => Ok(Reason::Chain(error)),
+            NoTable::TwoExtended => Ok(Reason::TwoExtended),
+            NoTable::TooSmall => Ok(Reason::TooSmall),
+            NoTable::Device(at) => Err(Failure::Device(at)),
+            NoTable::Memory => Err(Failure::Memory),
         }
     }
 }

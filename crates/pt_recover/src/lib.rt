@@ -19,10 +19,10 @@ mod trace;
 
 pub use alike::{alike_decides, is_alike};
 pub use body::{body_of, records_of};
-pub use error::NoTable;
+pub use error::{NoTable, Reason};
 pub use labels::traced_labels;
 pub use pt_members::{Body, Ebrs, Labelled, Labels, Layout, Slice, is_slice_type, label_places};
-pub use recovery::{recover, recover_after, recover_known, recover_traced};
+pub use recovery::{read_layout, recover, recover_traced};
 pub use side::{SideError, recover_from};
-pub use tables::traced_copy;
+pub use tables::{FoundCopy, read_either};
 pub use trace::Trace;

@@ -2,21 +2,21 @@
 
 ghost use Rattle.std.specs.Prelude.{◌≡◌, ◌⊎◌, OnOk, IfOk, IfErr, IfSome, Some};
 ghost use Rattle.pt_sector.specs.Device.{Blames};
-ghost use Rattle.pt_sector.specs.Overlays.{OnlyReads};
+ghost use Rattle.pt_sector.specs.Overlays.{FailedIn, OnlyReads, fault_of};
 ghost use Rattle.pt_sector.specs.Sectors.{IsSectorSize};
 ghost use Rattle.pt_recover.specs.Denotes.{Denotes, Reads, IsMbr, Numbers, IsOutsideDisk, TellsNothing, fault_in, FailedInDisk};
-ghost use Rattle.pt_recover.specs.Denotes.{IsTraceOf};
+ghost use Rattle.pt_recover.specs.Denotes.{FoundIs, IsTraceOf};
 ghost use Rattle.pt_recover.specs.Spans.{Adds};
 
 use crate::body::body_after;
-use crate::error::NoTable;
+use crate::error::{NoTable, Reason};
 use crate::labels::traced_labels;
 use crate::numbers::body_numbers;
 use crate::trace::Trace;
 use pt_gpt::LastArray;
 use pt_mbr::Mbr;
 use pt_members::{Layout, label_places};
-use pt_sector::Disk;
+use pt_sector::{Disk, Failure};
 use std::alloc::Global;
 
 // The layout that the disk denotes, with the sectors that decide it added to the trace.
@@ -78,50 +78,37 @@ pub fn recover_traced<const B: usize, D: Disk<B>>(
     ensures traced { D.tells → OnOk result.0 (IsTraceOf B (D.told disk.old).seen result.1) }
     ensures traced_err { D.tells → IfErr result.0 (λ e. IsOutsideDisk e ⊎ IsTraceOf B (D.told disk.old).seen result.1) }
 {
-    recover_known(alloc, disk, None)
-}
-
-/// The same, where sector 0 may have been read before: `known` has the records of an MBR disk, whose sector 0 isn't read
-/// again then, though the trace has it. With none it is read.
-pub fn recover_known<const B: usize, D: Disk<B>>(
-    alloc: Global,
-    disk: &mut D,
-    known: Option<Mbr>,
-) -> (Result<Layout, NoTable>, Trace)
-    requires size { IsSectorSize B }
-    requires known { D.tells → IfSome known (λ m. IsMbr (D.told disk.old).seen m.records) }
-    ensures same { OnlyReads D.Disk disk.old disk.new }
-    ensures blames { Blames fault_in result.0 (D.faults disk.old) (D.faults disk.new) }
-    ensures place { D.tells → IfErr result.0 (FailedInDisk (Reads B (D.told disk.old).seen)) }
-    ensures ok { D.tells → IfOk result.0 (λ o. Denotes B (D.told disk.old).seen (Some o)) }
-    ensures numbers { IfOk result.0 Numbers }
-    ensures err { D.tells → IfErr result.0 (λ e. TellsNothing B (D.told disk.old).seen e) }
-    ensures traced { D.tells → OnOk result.0 (IsTraceOf B (D.told disk.old).seen result.1) }
-    ensures traced_err { D.tells → IfErr result.0 (λ e. IsOutsideDisk e ⊎ IsTraceOf B (D.told disk.old).seen result.1) }
-{
+    let mut trace = Trace::new(alloc);
     let mut last = LastArray::new(alloc);
-    recover_after(alloc, disk, known, &mut last)
+    let answer = recover_into(alloc, disk, &None, &mut trace, &mut last);
+    (answer, trace)
 }
 
-/// The same, where an array isn't summed that has the bytes of the last one.
-pub fn recover_after<const B: usize, D: Disk<B>>(
+/// What a reading of the disk finds, the layout that it denotes or why it denotes nothing, with the sectors that decide it.
+///
+/// Sector 0 may have been read before: `known` has the records of an MBR disk, whose sector 0 isn't read again then, though the trace
+/// has it. With none it is read. An array isn't summed that has the bytes of the last one.
+pub fn read_layout<const B: usize, D: Disk<B>>(
     alloc: Global,
     disk: &mut D,
-    known: Option<Mbr>,
+    known: &Option<Mbr>,
     last: &mut LastArray,
-) -> (Result<Layout, NoTable>, Trace)
+) -> Result<(Result<Layout, Reason>, Trace), Failure>
     requires size { IsSectorSize B }
-    requires known { D.tells → IfSome known (λ m. IsMbr (D.told disk.old).seen m.records) }
+    requires known { D.tells → IfSome known.now (λ m. IsMbr (D.told disk.old).seen m.records) }
     ensures same { OnlyReads D.Disk disk.old disk.new }
-    ensures blames { Blames fault_in result.0 (D.faults disk.old) (D.faults disk.new) }
-    ensures place { D.tells → IfErr result.0 (FailedInDisk (Reads B (D.told disk.old).seen)) }
-    ensures ok { D.tells → IfOk result.0 (λ o. Denotes B (D.told disk.old).seen (Some o)) }
-    ensures numbers { IfOk result.0 Numbers }
-    ensures err { D.tells → IfErr result.0 (λ e. TellsNothing B (D.told disk.old).seen e) }
-    ensures traced { D.tells → OnOk result.0 (IsTraceOf B (D.told disk.old).seen result.1) }
-    ensures traced_err { D.tells → IfErr result.0 (λ e. IsOutsideDisk e ⊎ IsTraceOf B (D.told disk.old).seen result.1) }
+    ensures blames { Blames fault_of result (D.faults disk.old) (D.faults disk.new) }
+    ensures place { D.tells → IfErr result (FailedIn (Reads B (D.told disk.old).seen)) }
+    ensures found { D.tells → IfOk result (λ r. FoundIs B (D.told disk.old).seen r.0) }
+    ensures numbers { IfOk result (λ r. IfOk r.0 Numbers) }
+    ensures traced { D.tells → IfOk result (λ r. IsTraceOf B (D.told disk.old).seen r.1) }
 {
     let mut trace = Trace::new(alloc);
-    let answer = recover_into(alloc, disk, &known, &mut trace, last);
-    (answer, trace)
+    match recover_into(alloc, disk, known, &mut trace, last) {
+        Ok(layout) => Ok((Ok(layout), trace)),
+        Err(error) => {
+            let reason = error.reason()?;
+            Ok((Err(reason), trace))
+        }
+    }
 }

@@ -1,12 +1,15 @@
 -- What a disk denotes, why it denotes nothing, and which sectors recovery reads: what private contracts cite.
-use Rattle.std.specs.Prelude.{◌≡◌, ◌⊎◌, ℕ, List, [], ◌∷◌, length, Option, Some, None}
+use Rattle.std.specs.Prelude.{◌≡◌, ◌⊎◌, ℕ, List, [], ◌∷◌, length, Option, Some, None, Result, Ok, Err}
 use Rattle.pt_sector.specs.Sectors.{Sectors, Span}
 use Rattle.pt_mbr.specs.Chain.{ChainFault, IsDevice}
 use Rattle.pt_mbr.specs.declared.record.Record.{Record}
 use Rattle.pt_mbr.specs.declared.chain.ChainError.{ChainError}
 use Rattle.pt_mbr.specs.declared.chain.ChainError.TheVariants as way
-use Rattle.pt_gpt.specs.Copies.{IsCopyFault, HasRoom}
-use Rattle.pt_gpt.specs.declared.table.Side.TheVariants.{Primary, Backup}
+use Rattle.pt_gpt.specs.Copies.{CopyWith, IsCopyFault, HasRoom}
+use Rattle.pt_gpt.specs.declared.error.CopyError.{CopyError}
+use Rattle.pt_gpt.specs.declared.header.Header.{Header}
+use Rattle.pt_gpt.specs.declared.table.Side.{Side}
+use Rattle.pt_gpt.specs.declared.table.Table.{Table}
 use Rattle.pt_bsd.specs.Labels.{LabelBytes}
 use Rattle.pt_bsd.specs.declared.label.Label.{Label}
 use Rattle.pt_mbr.specs.Records.{extended_of}
@@ -26,10 +29,10 @@ abbrev pub IsChainFault : Sectors → Span → NoTable → Type 0
 IsChainFault d x (no.Chain e) = ChainFault d x e × (¬ IsDevice e)
 IsChainFault d x _ = ⊥
 
--- the first fault of each copy
-abbrev pub AreCopyFaults : ℕ → Sectors → NoTable → Type 0
-AreCopyFaults b d (no.NoCopy e f) = IsCopyFault b d Primary e × IsCopyFault b d Backup f
-AreCopyFaults b d _ = ⊥
+-- a side's copy with its header, or the rule that it breaks
+abbrev pub SideIs : ℕ → Sectors → Side → Result (Header × Table) CopyError → Type 0
+SideIs b d side (Ok c) = CopyWith b d side c.0 c.1
+SideIs b d side (Err e) = IsCopyFault b d side e
 
 -- the label that a slice's second sector decodes to
 abbrev pub LabelIs : Slice → List ℕ → Option Label → Type 0

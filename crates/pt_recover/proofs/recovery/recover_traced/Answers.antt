@@ -3,7 +3,7 @@ use Rattle.std.proofs.lemmas.Result.{on_ok_weaker, IfErr-weaker}
 use Rattle.pt_recover.specs.Denotes.{IsOutsideDisk, IsTraceOf, Reads}
 use Rattle.pt_recover.specs.Spans.{Adds}
 use Rattle.pt_recover.proofs.Whole.{trace_is, trace_or}
-use Rattle.pt_recover.proofs.recovery.recover_after.Goals as goal
+use Rattle.pt_recover.proofs.recovery.recover_traced.Goals as goal
 
 pub returns-clause-traced : goal.returns-clause-traced
 returns-clause-traced g c = λ tells.
