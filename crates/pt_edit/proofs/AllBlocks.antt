@@ -1,20 +1,19 @@
 -- The list of all blocks, as one more comes behind it.
 use Rattle.std.proofs.Common.{◌≡◌, ◌<◌, ◌≤◌, ◌+◌, ◌-◌, ◌∙◌, ◌++◌, ℕ, List, [], ◌∷◌, length, get_or, min, max, refl, sym, ap, subst, arith}
-use Rattle.std.proofs.Common.{inl, inr, zero, suc}
-use Rattle.std.specs.Prelude.{◌⊎◌, Contains}
+use Rattle.std.proofs.Common.{inl, inr}
+use Rattle.std.specs.Prelude.{Contains, Option, Some, None, IfSome, fold, ltb, Bool, true, false}
 use Rattle.std.specs.List.Sorted.{IsNonDecreasingBy, IsPermutation}
 use Rattle.std.proofs.lemmas.Bool.{cases_lt, cond-true, cond-false, lt-ltb, le-ltb}
+use Rattle.std.proofs.lemmas.Grind.{common_steps, fold-append}
 use Rattle.std.proofs.lemmas.List.{get_or_append_left, length-append}
 use Rattle.std.proofs.Math.Seq.{get_or-append_seam}
 use Rattle.std.proofs.lemmas.List.Elements.{Contains-append_left, Contains-get_or, Contains-push, Contains-push_cases}
-use Rattle.pt_edit.specs.declared.space.space.Run.{Run}
-use Rattle.pt_words.specs.declared.word.End.{End}
-use Rattle.pt_edit.specs.Space.{Area, AreBlocks, IsBlock, Placed, with_taken}
-use Rattle.pt_edit.specs.inner.Space.{gap_of, with_gap}
-use Rattle.pt_edit.proofs.AlikeLemmas.{turned, block_alike}
-use Rattle.pt_edit.proofs.Gaps.{IsAt, Reached, last_gap, none_below, none_in_run, one_gap, reached_more, reached_none}
+use Rattle.pt_edit.specs.declared.space.Run.{Run}
+use Rattle.pt_edit.specs.Space.{Area, AreBlocks, IsBlock, with_taken, longest, longer_of, part_of, blocks_of}
+use Rattle.pt_edit.specs.inner.Space.{gap_of, best_past, with_gap}
+use Rattle.pt_edit.proofs.AlikeLemmas.{are_alike, blocks_alike}
+use Rattle.pt_edit.proofs.Gaps.{IsAt, OneMore, Reached, last_gap, none_below, none_in_run, one_gap, reached_more, reached_none}
 use Rattle.pt_edit.proofs.Gaps.{reached_start, run_at}
-use Rattle.pt_edit.proofs.Parts.{OneMore}
 use Rattle.pt_edit.proofs.Sets.{same_sectors}
 
 -- those that begin below a bound
@@ -161,66 +160,45 @@ module _ (a : Area) (i first : ℕ) (blocks : List Run) (listed : Listed a i fir
 
 -- the same where the taken runs stand in another order
 pub blocks_back : (a : Area) (ys blocks : List Run) → IsPermutation a.taken ys → AreBlocks (with_taken a ys) blocks → AreBlocks a blocks
-blocks_back a ys blocks moved is =
-    let same = same_sectors a.taken ys moved in record {
-      each = λ b c. block_alike (with_taken a ys) a.taken (turned a.taken ys same) b (is.each b c);
-      all = λ b x. is.all b (block_alike a ys same b x);
-      ascending = is.ascending;
-    }
+blocks_back a ys blocks moved = are_alike a ys blocks (same_sectors a.taken ys moved)
 
--- ## There is one list.
+pub blocks_moved : (a : Area) (ys : List Run) → IsPermutation a.taken ys → blocks_of (with_taken a ys) ≡ blocks_of a
+blocks_moved a ys moved = blocks_alike a ys (same_sectors a.taken ys moved)
 
-abbrev Ascends : List Run → Type 0
-Ascends xs = (i j : ℕ) (d : Run) → i < j → j < length xs → (get_or xs i d).first < (get_or xs j d).first
+-- ## The longest part of the blocks so far.
 
-behind : (x : Run) (xs : List Run) → Ascends (x ∷ xs) → Ascends xs
-behind x xs up i j d lt inside = up (suc i) (suc j) d (omega arith) (omega arith)
+pub record Swept (a : Area) (alignment i first : ℕ) (best : Option Run) : Type 0 where
+  pub blocks : List Run
+  pub listed : Listed a i first blocks
+  pub best_is : best ≡ longest a alignment blocks
 
--- what stands in a list stands in front, or begins behind that
-front_or : (x : Run) (xs : List Run) (b : Run) → Ascends (x ∷ xs) → Contains (x ∷ xs) b → (x ≡ b) ⊎ ((x.first < b.first) × Contains xs b)
-front_or x xs b up (zero, lt, at) = inl at
-front_or x xs b up (suc k, lt, at) =
-    let order = up 0 (suc k) b (omega arith) lt in
-    let here = ap (λ (r : Run). r.first) at in
-    inr (omega arith, (k, omega arith, at))
+pub longest_end : (a : Area) (alignment : ℕ) (blocks : List Run) (best : Option Run) (gap : Run) → best ≡ longest a alignment blocks
+    → longer_of best (part_of a alignment gap) ≡ longest a alignment (blocks ++ gap ∷ [])
+longest_end a alignment blocks best gap is = rw (is, fold-append)
 
-one_list : (xs ys : List Run) → Ascends xs → Ascends ys → ((b : Run) → Contains xs b → Contains ys b)
-    → ((b : Run) → Contains ys b → Contains xs b) → xs ≡ ys
-one_list [] [] up also there back = refl
-one_list [] (y ∷ ys) up also there back = absurd (let is = back y (0, omega arith, refl) in omega (arith, is.1))
-one_list (x ∷ xs) [] up also there back = absurd (let is = there x (0, omega arith, refl) in omega (arith, is.1))
-one_list (x ∷ xs) (y ∷ ys) up also there back =
-    let same : x ≡ y = elim (front_or y ys x also (there x (0, omega arith, refl))) as (λ _. x ≡ y) [
-      | inl e ↦ sym e
-      | inr low ↦ elim (front_or x xs y up (back y (0, omega arith, refl))) as (λ _. x ≡ y) [
-        | inl e ↦ e
-        | inr high ↦ absurd (omega (arith, low.0, high.0))
-      ]
-    ] in
-    let firsts = ap (λ (r : Run). r.first) same in
-    let rest : xs ≡ ys = one_list xs ys (behind x xs up) (behind y ys also)
-    (λ b (k, lt, at). elim (front_or y ys b also (there b (suc k, omega arith, at))) as (λ _. Contains ys b) [
-      | inl e ↦ absurd (let here = ap (λ (r : Run). r.first) e in let order = up 0 (suc k) b (omega arith) (omega arith) in
-          let is = ap (λ (r : Run). r.first) at in omega arith)
-      | inr far ↦ far.1
-    ])
-    (λ b (k, lt, at). elim (front_or x xs b up (back b (suc k, omega arith, at))) as (λ _. Contains xs b) [
-      | inl e ↦ absurd (let here = ap (λ (r : Run). r.first) e in let order = also 0 (suc k) b (omega arith) (omega arith) in
-          let is = ap (λ (r : Run). r.first) at in omega arith)
-      | inr far ↦ far.1
-    ]) in
-    ap (λ (r : Run). r ∷ xs) same ∙ ap (λ (l : List Run). y ∷ l) rest
+pub longest_past : (a : Area) (alignment : ℕ) (blocks : List Run) (best : Option Run) (first : ℕ) (run : Run)
+    → best ≡ longest a alignment blocks → best_past a alignment best first run ≡ longest a alignment (with_gap a blocks first run)
+longest_past a alignment blocks best first run is = by_case (ltb first run.first) refl where
+  by_case : (t : Bool) → ltb first run.first ≡ t
+      → best_past a alignment best first run ≡ longest a alignment (with_gap a blocks first run)
+  by_case true less = rw less (longest_end a alignment blocks best _ is)
+  by_case false not = rw not is
 
-ascends : (a : Area) (xs : List Run) → AreBlocks a xs → Ascends xs
-ascends a xs is i j d lt inside =
-    let order = is.ascending i j d lt inside in
-    let some = (is.each (get_or xs i d) (Contains-get_or xs i d (omega arith))).some in
-    omega arith
+part_some : (a : Area) (alignment : ℕ) (b : Run) → IfSome (part_of a alignment b) (λ r. r.first ≤ r.last)
+part_some a alignment b = grind (arith, common_steps)
 
-pub blocks_are_one : (a : Area) (xs ys : List Run) → AreBlocks a xs → AreBlocks a ys → xs ≡ ys
-blocks_are_one a xs ys one two = one_list xs ys (ascends a xs one) (ascends a ys two)
-    (λ b is. two.all b (one.each b is)) (λ b is. one.all b (two.each b is))
+longer_some : (best other : Option Run) → IfSome best (λ (r : Run). r.first ≤ r.last) → IfSome other (λ (r : Run). r.first ≤ r.last)
+    → IfSome (longer_of best other) (λ (r : Run). r.first ≤ r.last)
+longer_some None None one two = tt
+longer_some (Some b) None one two = one
+longer_some None (Some r) one two = two
+longer_some (Some b) (Some r) one two = grind (arith, common_steps)
 
-pub placed_within : (a : Area) (alignment start : ℕ) (end : End) (r : Run) → Placed a alignment start end r
-    → (b : Run) × IsBlock a b × (b.first ≤ r.first) × (r.last ≤ b.last)
-placed_within a alignment start end r placed = (placed.block, placed.starts.is_block, placed.starts.holds.0, placed.ends.inside)
+longest_on : (a : Area) (alignment : ℕ) (best : Option Run) (blocks : List Run) → IfSome best (λ (r : Run). r.first ≤ r.last)
+    → IfSome (fold (λ o b. longer_of o (part_of a alignment b)) best blocks) (λ (r : Run). r.first ≤ r.last)
+longest_on a alignment best [] is = is
+longest_on a alignment best (b ∷ bs) is =
+    longest_on a alignment (longer_of best (part_of a alignment b)) bs (longer_some best _ is (part_some a alignment b))
+
+pub longest_some : (a : Area) (alignment : ℕ) (blocks : List Run) → IfSome (longest a alignment blocks) (λ (r : Run). r.first ≤ r.last)
+longest_some a alignment blocks = longest_on a alignment None blocks tt

@@ -1,6 +1,6 @@
 -- Lemmas on specs/Chains.antt: records that lie on the disk and share no sector, and that `n` keeps them so.
 use Rattle.std.specs.Prelude.{◌≡◌, ◌≢◌, ◌≤◌, ◌<◌, ◌⊎◌, ◌+◌, ◌-◌, ℕ, zero, suc, List, [], ◌∷◌, length, option_map, slice_index_or}
-use Rattle.std.specs.Prelude.{slice_set, min, Contains, Option, Some, None}
+use Rattle.std.specs.Prelude.{slice_set, min, Contains, Option, Some, None, Ok}
 use Rattle.std.proofs.Common.{◌∙◌, sym, subst, refl, inl, inr, arith}
 use Rattle.std.proofs.lemmas.Bool.{cases_eq, cases_lt, le-leb}
 use Rattle.std.proofs.lemmas.Option.{none-some}
@@ -13,13 +13,14 @@ use Rattle.pt_members.specs.declared.layout.Layout.{Layout}
 use Rattle.pt_members.specs.Members.{record_member, records_as}
 use Rattle.pt_words.specs.declared.word.Code.{Code}
 use Rattle.pt_words.specs.declared.word.End.{End}
-use Rattle.pt_edit.specs.declared.space.space.Run.{Run}
+use Rattle.pt_edit.specs.declared.space.Run.{Run}
 use Rattle.pt_edit.specs.Space.{IsInRuns, IsFree, IsFreeRun, span_of, spanned_by}
-use Rattle.pt_edit.proofs.SpaceTerms.{placed_is_free_lem}
-use Rattle.pt_edit.specs.Records.{with_record, TakesRecordNumber, as_asked, lowest_one}
-use Rattle.pt_edit.specs.MbrEdits.{disk_area, record_at, NewIn, new_record, new_logical, RecordNew}
-use Rattle.pt_edit.proofs.RecordsTerms.{in_mbr}
+use Rattle.pt_edit.proofs.Placing.{placed_is_free_lem}
+use Rattle.pt_edit.specs.Records.{with_record}
+use Rattle.pt_words.specs.declared.asked.Asked.{Asked}
+use Rattle.pt_edit.specs.MbrEdits.{disk_area, record_at, record_new}
 use Rattle.pt_edit.specs.Chains.{InRecord, LieApart, RecordsLieApart}
+use Rattle.pt_edit.proofs.RecordSteps.{NewIn, has_record, new_is, new_logical, new_record, record_used}
 
 run_at : Record → Run
 run_at r = record { first = r.start; last = r.start + r.size - 1 }
@@ -53,7 +54,7 @@ taken_in records k s i =
     let from : i.part.start ≤ s = i.from in
     let to : s < i.part.start + i.part.size = i.to in (
       run_at i.part,
-      contains_run 1 records (k - 1) i.part i.is_record.used (λ z. omega (arith, from, to, z)),
+      contains_run 1 records (k - 1) i.part (has_record records k i.part i.is_record).used (λ z. omega (arith, from, to, z)),
       (from, omega (arith, from, to)),
     )
 
@@ -72,27 +73,24 @@ split_new : (old : List (Option Record)) (number : ℕ) (x : Record) (j s : ℕ)
     → InRecord (with_record old number (Some x)) j s → InNew old number x j s
 unfolding InNew
 split_new old number x j s least (inl same) i =
+    let has = has_record (with_record old number (Some x)) j i.part i.is_record in
     let at : slice_index_or (with_record old number (Some x)) (number - 1) None ≡ Some i.part =
-    subst (λ (k : ℕ). slice_index_or (with_record old number (Some x)) (k - 1) None ≡ Some i.part) same i.is_record.used in
+    subst (λ (k : ℕ). slice_index_or (with_record old number (Some x)) (k - 1) None ≡ Some i.part) same has.used in
     let is : x ≡ i.part = set_there old (number - 1) x i.part (cases_lt (number - 1) (length old)) at in
     inl (same, subst (λ (r : Record). r.start ≤ s) (sym is) i.from, subst (λ (r : Record). s < r.start + r.size) (sym is) i.to)
 split_new old number x j s least (inr other) i =
-    let first : 1 ≤ j = i.is_record.primary.0 in
+    let has = has_record (with_record old number (Some x)) j i.part i.is_record in
+    let first : 1 ≤ j = has.primary.0 in
     let apart : (j - 1) ≢ (number - 1) = λ same. other (omega (arith, same, first, least)) in
     inr (record {
       part = i.part;
-      is_record = record {
-        primary = i.is_record.primary;
-        used =
-            sym (get_or-set_other old (number - 1) (j - 1) (Some x) None apart) ∙ i.is_record.used;
-      };
+      is_record = record_used old j i.part (record {
+        primary = has.primary;
+        used = sym (get_or-set_other old (number - 1) (j - 1) (Some x) None apart) ∙ has.used;
+      });
       from = i.from;
       to = i.to;
     })
-
-takes_least : (records : List (Option Record)) (asked number : ℕ) → TakesRecordNumber records asked number → 1 ≤ number
-takes_least records asked number (as_asked is unused) = unused.primary.0
-takes_least records asked number (lowest_one is lowest) = lowest.unused.primary.0
 
 -- a sector of the new record is on the disk, and in no used record
 new_free : (n : ℕ) (records : List (Option Record)) (kind : ℕ) (run : Run) (s : ℕ) → IsFreeRun (disk_area n records) run
@@ -140,14 +138,11 @@ new_in_apart : (b asked alignment start : ℕ) (end : End) (code : Option Code) 
     → NewIn b asked alignment start end code o records chain p → LieApart o.sectors records → RecordsLieApart p
 new_in_apart b asked alignment start end code o records chain p (new_record other x) old =
     let free = placed_is_free_lem (disk_area o.sectors records) alignment start end x.run x.placed in
-    subst RecordsLieApart (sym x.made) (kept_apart o.sectors records x.number x.kind x.run
-    (takes_least records asked x.number x.chosen.takes) old free)
+    subst RecordsLieApart (sym x.made) (kept_apart o.sectors records x.number x.kind x.run x.unused.primary.0 old free)
 new_in_apart b asked alignment start end code o records chain p (new_logical made labels five x is) old = subst RecordsLieApart (sym is) old
 
 -- records that lie apart still do after `n`
-pub new_apart_lem : (b number alignment start : ℕ) (end : End) (code : Option Code) (o p : Layout)
-    → RecordNew b number alignment start end code o p → RecordsLieApart o → RecordsLieApart p
-new_apart_lem b number alignment start end code o p x old =
-    in_mbr o.body (λ records chain. NewIn b number alignment start end code o records chain p)
-    (λ records chain. LieApart o.sectors records) (RecordsLieApart p)
-    (λ records chain. new_in_apart b number alignment start end code o records chain p) x old
+pub new_apart_lem : (b : ℕ) (a : Asked) (records : List (Option Record)) (chain : List Ebr) (o p : Layout)
+    → record_new b a records chain o ≡ Ok p → LieApart o.sectors records → RecordsLieApart p
+new_apart_lem b a records chain o p is old =
+    new_in_apart b a.number a.alignment a.start a.end a.code o records chain p (new_is b a records chain o p is) old

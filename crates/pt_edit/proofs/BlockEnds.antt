@@ -1,10 +1,12 @@
 -- The end of the block that has a free sector.
-use Rattle.std.proofs.Common.{◌≡◌, ◌<◌, ◌≤◌, ◌+◌, ◌-◌, ℕ, List, length, get_or, refl, sym, ap, ◌∙◌, subst, arith, inl, inr}
-use Rattle.std.proofs.lemmas.Bool.{cases_lt}
-use Rattle.pt_edit.specs.declared.space.space.Run.{Run}
-use Rattle.pt_edit.specs.Space.{Area, RunHolds, IsTaken, IsFree, Starts}
-use Rattle.pt_edit.specs.inner.Space.{HasStarted, EndsBlock}
-use Rattle.pt_edit.proofs.Sets.{begins}
+use Rattle.std.proofs.Common.{◌≡◌, ◌<◌, ◌≤◌, ◌+◌, ◌-◌, ℕ, List, length, get_or, sym, ap, ◌∙◌, subst, arith, inl, inr}
+use Rattle.std.specs.Prelude.{◌⊎◌, Bool, true, false, leb, find, Some, None, Err}
+use Rattle.std.proofs.lemmas.Bool.{cases_lt, cases_order, and_from, and_left, and_right, le-leb, lt-leb, both_ways}
+use Rattle.pt_words.specs.declared.error.Refusal.TheVariants.{OutsideUsable, Overlap}
+use Rattle.pt_edit.specs.declared.space.Run.{Run}
+use Rattle.pt_edit.specs.Space.{Area, RunHolds, IsInRuns, IsTaken, IsFree, holds, is_in, is_usable, blocks_of, led, started_at}
+use Rattle.pt_edit.specs.inner.Space.{EndsBlock}
+use Rattle.pt_edit.proofs.Grouping.{blocks_are, find_any, find_none, find_some, free_in, in_runs, runs_in}
 use Rattle.pt_edit.proofs.Gaps.{run_at, any_default}
 
 -- none of the first i taken runs has a sector from one on to the last, and what is after the last isn't free
@@ -77,28 +79,55 @@ ends_all a i first last all free ends = record {
   after = ends.after;
 }
 
--- the block from where it begins to where it ends
-abbrev pub run_of : ℕ → ℕ → Run
-run_of first last = record { first = first; last = last }
+-- the block that has the sector ends there
+pub block_found : (a : Area) (first last : ℕ) → IsFree a first → EndsBlock a first last
+    → (b : Run) × (find (holds first) (blocks_of a) ≡ Some b) × (b.last ≡ last)
+block_found a first last free ends =
+    let (b, found) = find_any (blocks_of a) first (free_in a first free) in
+    let (there, held) = find_some (blocks_of a) first b found in
+    let is = (blocks_are a).each b there in (
+      b,
+      found,
+      elim (cases_order b.last last) as (λ _. b.last ≡ last) [
+        | inl same ↦ same
+        | inr (inl less) ↦ absurd (is.after (ends.free (b.last + 1) (omega (arith, held.1)) (omega arith)))
+        | inr (inr more) ↦ absurd (ends.after (is.free (last + 1) (omega (arith, held.0, ends.from), omega arith)))
+      ],
+    )
 
-pub has_started : (a : Area) (alignment start first last : ℕ) → Starts a alignment start first → IsFree a first
-    → EndsBlock a first last → HasStarted a alignment start (run_of first last)
-has_started a alignment start first last starts free ends =
-    let (begin, is) = begins a first free in
-    record {
-      block = run_of begin last;
-      starts = record {
-        starts = starts;
-        is_block = record {
-          some = omega (arith, is.up_to, ends.from);
-          free = λ n held. elim (cases_lt n first) as (λ _. IsFree a n) [
-            | inl lt ↦ is.free n held.0 (omega arith)
-            | inr ge ↦ ends.free n ge held.1
-          ];
-          before = is.before;
-          after = ends.after;
-        };
-        holds = (is.up_to, ends.from);
-      };
-      last_is = refl;
-    }
+-- no block has a taken one
+pub none_found : (a : Area) (k : ℕ) → IsTaken a k → find (holds k) (blocks_of a) ≡ None
+none_found a k taken = find_none (blocks_of a) k (λ is. (((blocks_are a).each is.0 is.1).free k is.2).1 taken)
+
+-- ## From a sector on.
+
+pub taken_from : (a : Area) (runs : List Run) (k : ℕ) (r : Bool) → runs ≡ a.taken → r ≡ is_in runs k → r ≡ true → IsTaken a k
+taken_from a runs k r list is on = subst (λ (xs : List Run). IsInRuns xs k) list (in_runs runs k (sym is ∙ on))
+
+pub free_from : (a : Area) (runs : List Run) (k : ℕ) (r : Bool) → runs ≡ a.taken → r ≡ is_in runs k → r ≡ false → a.low ≤ k → k ≤ a.high
+    → IsFree a k
+free_from a runs k r list is off low high =
+    ((low, high), λ taken. both_ways r off (is ∙ runs_in runs k (subst (λ (xs : List Run). IsInRuns xs k) (sym list) taken)))
+
+pub started_free : (a : Area) (first last : ℕ) → IsFree a first → EndsBlock a first last
+    → started_at a first ≡ led a a.empties (record { first = first; last = last })
+unfolding started_at
+started_free a first last free ends =
+    let usable : is_usable a first ≡ true =
+    and_from (leb a.low first) (leb first a.high) (le-leb a.low first free.0.0) (le-leb first a.high free.0.1) in
+    let (b, found, same) = block_found a first last free ends in
+    rw (usable, found) (ap (λ (n : ℕ). led a a.empties (record { first = first; last = n })) same)
+
+pub started_taken : (a : Area) (first : ℕ) → a.low ≤ first → first ≤ a.high → IsTaken a first → started_at a first ≡ Err Overlap
+unfolding started_at
+started_taken a first low high taken =
+    let usable : is_usable a first ≡ true =
+    and_from (leb a.low first) (leb first a.high) (le-leb a.low first low) (le-leb first a.high high) in
+    rw (usable, none_found a first taken)
+
+pub started_outside : (a : Area) (first : ℕ) → (first < a.low) ⊎ (a.low ≤ first × a.high < first) → started_at a first ≡ Err OutsideUsable
+unfolding started_at
+started_outside a first (inl below) =
+    let out : is_usable a first ≡ false = and_left (leb a.low first) (leb first a.high) (lt-leb a.low first below) in rw out
+started_outside a first (inr past) =
+    let out : is_usable a first ≡ false = and_right (leb a.low first) (leb first a.high) (lt-leb first a.high past.1) in rw out

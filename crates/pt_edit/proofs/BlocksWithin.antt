@@ -1,7 +1,7 @@
 -- Blocks lie among the usable sectors.
 use Rattle.std.proofs.Common.{◌<◌, ℕ, List, length, get_or, arith}
 use Rattle.std.proofs.lemmas.List.Elements.{Contains-get_or}
-use Rattle.pt_edit.specs.declared.space.space.Run.{Run}
+use Rattle.pt_edit.specs.declared.space.Run.{Run}
 use Rattle.pt_edit.specs.Space.{Area, AreBlocks}
 
 pub all_below : (a : Area) (runs : List Run) (bound : ℕ) → AreBlocks a runs → a.high < bound → (k : ℕ) (d : Run) → k < length runs

@@ -1,14 +1,22 @@
 -- Partitions put into their places, one at a time.
-use Rattle.std.proofs.Common.{◌≡◌, ◌≢◌, ◌<◌, ◌≤◌, ◌+◌, ◌-◌, ◌^◌, ℕ, List, length, get_or, replicate, Option, None, refl, sym, ap, ◌∙◌}
-use Rattle.std.proofs.Common.{subst, arith, inl, inr}
+use Rattle.std.proofs.Common.{◌≡◌, ◌≢◌, ◌<◌, ◌≤◌, ◌+◌, ◌-◌, ℕ, zero, suc, List, [], ◌∷◌, length, get_or, drop, replicate, Option, None}
+use Rattle.std.proofs.Common.{refl, sym}
+use Rattle.std.proofs.Common.{ap, ◌∙◌, subst, arith, inl, inr}
+use Rattle.std.specs.Prelude.{fold, zip}
+use Rattle.std.proofs.Math.Seq.{drop-cons}
+use Rattle.std.proofs.lemmas.List.{drop_all}
 use Rattle.std.proofs.Math.ListN.{set}
 use Rattle.std.proofs.lemmas.List.{get_or_default, get_or-set_same, get_or-set_other, length-set, get_or-replicate}
 use Rattle.std.proofs.lemmas.Bool.{cases_lt}
 use Rattle.pt_guid.specs.declared.guid.Guid.{Guid}
 use Rattle.pt_gpt.specs.declared.entry.Entry.{Entry}
-use Rattle.pt_edit.specs.Converted.{IsItemAt, entry_of}
-use Rattle.pt_edit.specs.inner.Entries.{Placeable, ArePlaced}
-use Rattle.pt_edit.specs.declared.partition.Partition.{Partition}
+use Rattle.pt_edit.specs.Converted.{entry_of, put_entry, entries_of, no_guid}
+use Rattle.pt_edit.specs.inner.Entries.{IsItemAt, Placeable}
+use Rattle.pt_edit.specs.declared.partitions.Partition.{Partition}
+
+drop_at : {X : Type 0} (xs : List X) (k : ℕ) (z : X) → k < length xs → drop k xs ≡ get_or xs k z ∷ drop (k + 1) xs
+drop_at xs k z within =
+    let e : suc k ≡ k + 1 = omega arith in drop-cons xs k z within ∙ ap (λ (m : ℕ). get_or xs k z ∷ drop m xs) e
 
 -- the first k of the partitions are in place
 pub record UpTo (guids : List Guid) (ps : List Partition) (k : ℕ) (entries : List (Option Entry)) : Type 0 where
@@ -66,18 +74,35 @@ one_placed_on n guids ps k entries p guid fit before at some =
           ∙ before.others number first last (λ j q lt. spare j q (omega arith));
     }
 
-pub one_placed : (guids : List Guid) (ps : List Partition) (k : ℕ) (entries : List (Option Entry)) (p : Partition) (guid : Guid)
-    → Placeable (2 ^ 64) ps → UpTo guids ps k entries → IsItemAt ps k p → IsItemAt guids (1 + k) guid
-    → UpTo guids ps (k + 1) (set entries (p.number - 1) (entry_of guid p))
-one_placed guids ps k entries p guid fit before at some = one_placed_on (2 ^ 64) guids ps k entries p guid fit before at some
+-- ## All of them, as the list of entries has them.
 
-pub all_placed : (guids : List Guid) (ps : List Partition) (k : ℕ) (entries : List (Option Entry)) → length ps ≤ k
-    → UpTo guids ps k entries → ArePlaced guids ps entries
-all_placed guids ps k entries past done = record {
-  count = done.count;
-  each = λ j p guid at. done.each j p guid (omega (arith, at.0)) at;
-  others = λ number low high spare. done.others number low high (λ j p lt at. spare p (j, at.0, at.1));
-}
+pub zip_none : {K X : Type 0} (ks : List K) → zip {X = X} ks [] ≡ []
+zip_none [] = refl
+zip_none (k ∷ ks) = refl
+
+module _ (n : ℕ) (guids : List Guid) (ps : List Partition) (fit : Placeable n ps) (enough : 1 + length ps ≤ length guids) where
+  nobody : Partition
+  nobody = record { number = 0; kind = 0; first = 0; last = 0 }
+
+  placed_from : (m k : ℕ) (entries : List (Option Entry)) → m + k ≡ length ps → UpTo guids ps k entries
+      → UpTo guids ps (length ps) (fold put_entry entries (zip (drop (1 + k) guids) (drop k ps)))
+  placed_from zero k entries end done =
+      let none : drop k ps ≡ [] = drop_all k ps (omega arith) in
+      let at : k ≡ length ps = omega arith in
+      rw (none, zip_none (drop (1 + k) guids)) (subst (λ (i : ℕ). UpTo guids ps i entries) at done)
+  placed_from (suc m) k entries end done =
+      let p = get_or ps k nobody in
+      let guid = get_or guids (1 + k) no_guid in
+      let one : drop k ps ≡ p ∷ drop (k + 1) ps = drop_at ps k nobody (omega arith) in
+      let two : drop (1 + k) guids ≡ guid ∷ drop (1 + (k + 1)) guids =
+      drop_at guids (1 + k) no_guid (omega arith) ∙ ap (λ (i : ℕ). guid ∷ drop i guids) (omega arith) in
+      rw (one, two) (placed_from m (k + 1) (put_entry entries (guid, p)) (omega arith)
+      (one_placed_on n guids ps k entries p guid fit done (at_place ps k nobody (omega arith))
+      (at_place guids (1 + k) no_guid (omega arith))))
+
+  pub all_placed : UpTo guids ps (length ps) (entries_of (drop 1 guids) ps)
+  unfolding entries_of
+  all_placed = placed_from (length ps) 0 (replicate 128 None) (omega arith) (none_placed guids ps)
 
 pub below_more : (n m : ℕ) (ps : List Partition) → n ≤ m → Placeable n ps → Placeable m ps
 below_more n m ps more fit = record {

@@ -1,14 +1,13 @@
 -- Lists of blocks, place by place.
-use Rattle.std.proofs.Common.{◌≡◌, ◌∙◌, ◌<◌, ◌≤◌, ◌+◌, ℕ, List, [], ◌∷◌, ◌++◌, append-nil, append_assoc, length, get_or, take, ap, refl}
+use Rattle.std.proofs.Common.{◌≡◌, ◌∙◌, List, [], ◌∷◌, ◌++◌, append-nil, append_assoc, ap, refl}
 use Rattle.std.proofs.Common.{ap₂, subst, sym}
-use Rattle.std.specs.Prelude.{flat_map, map}
-use Rattle.std.proofs.lemmas.List.{flat_map_more, take_all, take_more}
+use Rattle.std.specs.Prelude.{map}
 use Rattle.pt_edit.specs.declared.free.FreeBlock.{FreeBlock}
-use Rattle.pt_edit.specs.declared.space.space.Run.{Run}
+use Rattle.pt_edit.specs.declared.space.Run.{Run}
 use Rattle.pt_edit.specs.Free.{AreFree, Place, block_of}
 use Rattle.pt_edit.specs.Space.{AreBlocks}
 use Rattle.pt_edit.specs.inner.Free.{Adds}
-use Rattle.pt_edit.proofs.AllBlocks.{blocks_are_one}
+use Rattle.pt_edit.proofs.Blocks.{blocks_are_one}
 
 free_append : (ps qs : List Place) (xs ys : List FreeBlock) → AreFree ps xs → AreFree qs ys → AreFree (ps ++ qs) (xs ++ ys)
 free_append [] qs xs ys is also = subst (λ (l : List FreeBlock). AreFree qs (l ++ ys)) (sym is) also
@@ -37,22 +36,6 @@ pub adds_one : (n : Place) (runs : List Run) (xs ys : List FreeBlock) → AreBlo
 adds_one n runs xs ys are is ps so =
     subst (λ (l : List FreeBlock). AreFree (ps ++ n ∷ []) l) (sym is)
     (free_append ps (n ∷ []) xs (map (block_of n.inside) runs) so (runs, [], are, refl, sym (append-nil (map (block_of n.inside) runs))))
-
--- all there are
-pub all_added : (ps : List Place) (ys : List FreeBlock) → Adds ps [] ys → AreFree ps ys
-all_added ps ys is = is [] refl
-
--- those of one more of a list of things
-pub adds_more : {X : Type 0} (f : X → List Place) (os : List X) (k : ℕ) (z : X) (xs ys zs : List FreeBlock) → k < length os
-    → Adds (flat_map f (take k os)) xs ys → Adds (f (get_or os k z)) ys zs → Adds (flat_map f (take (k + 1) os)) xs zs
-adds_more f os k z xs ys zs within one two =
-    let same = flat_map_more f [] (take k os) (get_or os k z) ∙ ap (λ (l : List _). flat_map f l) (sym (take_more os k z within)) in
-    subst (λ (l : List Place). Adds l xs zs) same (adds_both (flat_map f (take k os)) (f (get_or os k z)) xs ys zs one two)
-
--- those of all of them
-pub adds_all : {X : Type 0} (f : X → List Place) (os : List X) (k : ℕ) (xs ys : List FreeBlock) → length os ≤ k
-    → Adds (flat_map f (take k os)) xs ys → Adds (flat_map f os) xs ys
-adds_all f os k xs ys past is = subst (λ (l : List _). Adds (flat_map f l) xs ys) (take_all k os past) is
 
 -- those of one place, of some more, and of the rest
 pub all_three : (n : Place) (ms ns : List Place) (ws xs ys zs : List FreeBlock) → ws ≡ [] → Adds (n ∷ []) ws xs → Adds ms xs ys

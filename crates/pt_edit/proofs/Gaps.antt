@@ -1,15 +1,12 @@
 -- What is free between taken runs in the order of their first sectors.
 use Rattle.std.proofs.Common.{◌≡◌, ◌<◌, ◌≤◌, ◌+◌, ◌-◌, ℕ, List, length, get_or, min, max, sym, ap, ◌∙◌, subst, arith, inl, inr}
-use Rattle.std.specs.Prelude.{◌⊎◌, Option, None}
 use Rattle.std.specs.List.Sorted.{IsNonDecreasingBy}
 use Rattle.std.proofs.lemmas.List.{get_or_default}
-use Rattle.std.proofs.lemmas.Bool.{cases_lt, cond-true, cond-false, lt-ltb, le-ltb}
-use Rattle.pt_edit.specs.declared.space.space.Run.{Run}
+use Rattle.std.proofs.lemmas.Bool.{cases_lt}
+use Rattle.pt_edit.specs.declared.space.Run.{Run}
 use Rattle.pt_edit.specs.Space.{Area, RunHolds, IsTaken, IsFree, IsBlock}
 use Rattle.pt_edit.proofs.Blocks.{same_block}
-use Rattle.pt_edit.specs.inner.Space.{part_of, longer_of, gap_of, best_past, Best}
-use Rattle.pt_edit.proofs.SweepLemmas.{BestBelow}
-use Rattle.pt_edit.proofs.Parts.{OneMore, longer_below, no_more, best_of_all}
+use Rattle.pt_edit.specs.inner.Space.{gap_of}
 
 -- after the first i taken runs: a first sector that none of them reaches
 pub record Reached (a : Area) (i first : ℕ) : Type 0 where
@@ -18,10 +15,12 @@ pub record Reached (a : Area) (i first : ℕ) : Type 0 where
   pub passed : (j : ℕ) (d : Run) → j < i → (get_or a.taken j d).first ≤ (get_or a.taken j d).last → (get_or a.taken j d).last < first
   pub edge : (n : ℕ) → n + 1 ≡ first → ¬ IsFree a n
 
--- and the best part below it
-pub record Swept (a : Area) (alignment i first : ℕ) (best : Option Run) : Type 0 where
-  pub reached : Reached a i first
-  pub best_is : BestBelow a alignment first best
+-- the blocks below a bound are those below a lower one, and one more
+pub record OneMore (a : Area) (old new : ℕ) (gap : Run) : Type 0 where
+  pub is_block : IsBlock a gap
+  pub above : old ≤ gap.first
+  pub below : gap.first < new
+  pub only : (b : Run) → IsBlock a b → old ≤ b.first → b.first < new → b ≡ gap
 
 -- run i is this one, whatever stands for one past the end
 pub record IsAt (a : Area) (i : ℕ) (run : Run) : Type 0 where
@@ -45,10 +44,6 @@ is_at a items i same lt some = record {
   some = some;
 }
 
-pub swept_same : (a : Area) (alignment i f g : ℕ) (b q : Option Run) → g ≡ f → q ≡ b → Swept a alignment i f b → Swept a alignment i g q
-swept_same a alignment i f g b q first best is =
-    subst (λ (n : ℕ). Swept a alignment i n q) (sym first) (subst (λ (r : Option Run). Swept a alignment i f r) (sym best) is)
-
 pub reached_start : (a : Area) → a.low ≤ a.high → Reached a 0 a.low
 reached_start a some = record {
   low = omega arith;
@@ -60,12 +55,6 @@ reached_start a some = record {
 -- no block starts below the first usable sector
 pub none_below : (a : Area) (b : Run) → IsBlock a b → b.first < a.low → ⊥
 none_below a b x lt = let has = x.some in let free = x.free b.first (omega arith, omega arith) in omega (arith, free.0.0)
-
-pub swept_start : (a : Area) (alignment : ℕ) → a.low ≤ a.high → Swept a alignment 0 a.low None
-swept_start a alignment some = record {
-  reached = reached_start a some;
-  best_is = λ c x lt. absurd (none_below a c x lt);
-}
 
 module _ (a : Area) (i first : ℕ) (reached : Reached a i first) (sorted : IsNonDecreasingBy (λ (r : Run). r.first) a.taken) where
   -- no run that stands before i has a sector from the first on
@@ -183,50 +172,3 @@ module _ (a : Area) (i first : ℕ) (reached : Reached a i first) (sorted : IsNo
     only = λ b x from under. (let some = x.some in
         same_block a b (record { first = first; last = a.high }) b.first x (last_block all) (omega arith, omega arith) (from, omega arith));
   }
-
-module _ (a : Area) (alignment i first : ℕ) (best : Option Run) (swept : Swept a alignment i first best)
-    (sorted : IsNonDecreasingBy (λ (r : Run). r.first) a.taken) where
-  module _ (run : Run) (at : IsAt a i run) where
-    -- the best part up to any bound in the run
-    pub best_after : (new : ℕ) → first ≤ new → (first < new → new ≤ run.last + 1) → first < new ⊎ (run.first ≤ first)
-        → BestBelow a alignment new (best_past a alignment best first run)
-    best_after new le past either = elim (cases_lt first run.first)
-        as (λ _. BestBelow a alignment new (best_past a alignment best first run)) [
-          | inl lt ↦ (let below : first < new = elim either as (λ _. first < new) [ inl x ↦ x | inr x ↦ absurd (omega arith) ] in
-              subst (λ (p : Option Run). BestBelow a alignment new p) (sym (cond-true _ _ _ (lt-ltb first run.first lt)))
-              (longer_below a alignment first new (gap_of a first run)
-              (one_gap a i first swept.reached sorted run at new lt below (past below)) best swept.best_is))
-          | inr ge ↦ subst (λ (p : Option Run). BestBelow a alignment new p) (sym (cond-false _ _ _ (le-ltb first run.first ge)))
-              (no_more a alignment first new best le (λ b x from under.
-              none_in_run a i first swept.reached sorted run at b x (omega arith) (let far = past (omega arith) in omega arith))
-              swept.best_is)
-        ]
-
-    -- a run that reaches the end of what is usable ends the sweep
-    pub best_at_end : a.high ≤ run.last → Best a alignment (best_past a alignment best first run)
-    best_at_end reaches =
-        let high = swept.reached.high in
-        best_of_all a alignment (a.high + 1) (best_past a alignment best first run) (omega arith)
-        (best_after (a.high + 1) (omega arith) (λ lt. omega arith) (inl (omega arith)))
-
-    -- another is passed
-    pub swept_more : run.last < a.high → Swept a alignment (i + 1) (max first (run.last + 1)) (best_past a alignment best first run)
-    swept_more inside = record {
-      reached = reached_more a i first swept.reached sorted run at inside;
-      best_is = best_after (max first (run.last + 1)) (omega arith) (λ lt. omega arith)
-          (elim (cases_lt first run.first) as (λ _. first < max first (run.last + 1) ⊎ run.first ≤ first)
-          [ inl lt ↦ inl (let some = at.some in omega arith) | inr ge ↦ inr ge ]);
-    }
-
-  -- a run of no sector is passed over
-  pub swept_none : (items : List Run) → items ≡ a.taken → i < length items → (run_at items i).last < (run_at items i).first
-      → Swept a alignment (i + 1) first best
-  swept_none items list inside none =
-      record { reached = reached_none a i first swept.reached sorted items list inside none; best_is = swept.best_is }
-
-  pub best_of_swept : length a.taken ≤ i → Best a alignment (longer_of best (part_of a alignment (record { first = first; last = a.high })))
-  best_of_swept all =
-      let high = swept.reached.high in
-      best_of_all a alignment (a.high + 1) _ (omega arith)
-      (longer_below a alignment first (a.high + 1) (record { first = first; last = a.high })
-      (last_gap a i first swept.reached sorted all) best swept.best_is)

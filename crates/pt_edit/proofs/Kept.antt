@@ -17,7 +17,7 @@ use Rattle.pt_members.specs.Members.{number_path, logical_kind, record_member, l
 use Rattle.pt_members.specs.Members.{tops, logicals}
 use Rattle.pt_members.proofs.Grouped.{kind_extended}
 use Rattle.pt_edit.specs.Entries.{partitions, member_of, is_kept_kind, is_kept}
-use Rattle.pt_edit.specs.declared.partition.Partition.{Partition}
+use Rattle.pt_edit.specs.declared.partitions.Partition.{Partition}
 use Rattle.pt_edit.proofs.PartsLemmas.{partition_of, primary, primaries, logical_in, logical, logicals_from, other_kind, logical_kept}
 use Rattle.pt_edit.proofs.PartsLemmas.{next_same, partitions_mbr}
 

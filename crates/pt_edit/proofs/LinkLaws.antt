@@ -1,4 +1,5 @@
 -- The laws of chains as disks have them, as terms that definitions and proofs above can cite: edits leave such chains.
+use Rattle.std.specs.Prelude.{Ok}
 use Rattle.std.specs.Prelude.{◌≡◌, ◌≢◌, ◌<◌, ◌≤◌, ◌+◌, ◌-◌, ℕ, zero, suc, Bool, false, List, [], ◌∷◌, length, flat_map, Contains}
 use Rattle.std.specs.Prelude.{option_map, slice_get, slice_set, Option, Some, None, if◌then◌else◌}
 use Rattle.std.specs.List.{insert}
@@ -13,14 +14,18 @@ use Rattle.pt_mbr.specs.declared.record.Record.{Record}
 use Rattle.pt_mbr.specs.declared.ebr.Ebr.{Ebr}
 use Rattle.pt_members.specs.declared.layout.Labelled.{Labelled}
 use Rattle.pt_members.specs.Members.{logicals_as}
-use Rattle.pt_edit.specs.declared.space.space.Run.{Run}
+use Rattle.pt_edit.specs.declared.space.Run.{Run}
 use Rattle.pt_edit.specs.Space.{IsInRuns, IsFreeRun, Placed, taken_by}
-use Rattle.pt_edit.proofs.SpaceTerms.{placed_is_free_lem}
+use Rattle.pt_edit.proofs.Placing.{placed_is_free_lem}
 use Rattle.pt_words.specs.declared.word.Code.{Code}
 use Rattle.pt_words.specs.declared.word.End.{End}
-use Rattle.pt_edit.specs.Chains.{ebr_at, with_logical, LogicalTyped, LogicalDeleted, IsEmptyIn, NoEmptyIn, IsPlaceFor, with_ebr, Entered}
-use Rattle.pt_edit.specs.Chains.{reused, added, own_sector, taken_of, empty_sector, logical_area, len_of, record_for, LogicalNew}
+use Rattle.pt_edit.specs.Chains.{ebr_at, with_logical, with_ebr}
+use Rattle.pt_edit.specs.Chains.{own_sector, taken_of, empty_sector, logical_area, len_of, record_for}
 use Rattle.pt_edit.specs.Chains.{IsLinked}
+use Rattle.pt_edit.proofs.RecordSteps.{Entered, IsEmptyIn, IsPlaceFor, LogicalNew, NoEmptyIn, added, logical_deleted_is, logical_new_is}
+use Rattle.pt_edit.proofs.RecordSteps.{logical_typed_is, reused}
+use Rattle.pt_words.specs.declared.asked.Asked.{Asked}
+use Rattle.pt_edit.specs.Chains.{logical_deleted, logical_new, logical_typed}
 
 -- another logical partition, or none, changes no link
 kept : (chain : List Ebr) (from : Option Lba) (k : ℕ) (o : Option Record) → k < length chain → IsLinked from chain
@@ -162,25 +167,33 @@ entered_linked x chain alignment start end p r n made placed linked (added k non
     (added_linked_lem chain x.start (p.first - 1) r k linked (above_low x chain alignment start end p placed)
     (apart_from x chain alignment start end p placed none) place)
 
-pub logical_new_linked_lem : (b : ℕ) (x : Record) (chain : List Ebr) (labels : List Labelled) (alignment start : ℕ) (end : End)
+new_linked : (b : ℕ) (x : Record) (chain : List Ebr) (labels : List Labelled) (alignment start : ℕ) (end : End)
     (code : Option Code) (made : List Ebr) (left : List Labelled)
     → LogicalNew b (Some x) chain labels alignment start end code made left → IsLinked (Some (lba x.start)) chain
     → IsLinked (Some (lba x.start)) made
-logical_new_linked_lem b x chain labels alignment start end code made left y linked =
+new_linked b x chain labels alignment start end code made left y linked =
     let is = y.is_parent in
     let same : y.parent ≡ x = cc in
     entered_linked x chain alignment start end y.place (record_for y.kind (len_of y.place)) y.number made
     (subst (λ (p : Record). Placed (logical_area p chain) alignment start end y.place) same y.placed) linked y.entered
 
+pub logical_new_linked_lem : (b : ℕ) (x : Record) (chain : List Ebr) (labels : List Labelled) (a : Asked) (made : List Ebr)
+    (left : List Labelled) → logical_new b (Some x) chain labels a ≡ Ok (made, left) → IsLinked (Some (lba x.start)) chain
+    → IsLinked (Some (lba x.start)) made
+logical_new_linked_lem b x chain labels a made left is linked =
+    new_linked b x chain labels a.alignment a.start a.end a.code made left (logical_new_is b (Some x) chain labels a made left is) linked
+
 pub logical_typed_linked_lem : (b number : ℕ) (code : Code) (chain made : List Ebr) (from : Option Lba)
-    → LogicalTyped b number code chain made → IsLinked from chain → IsLinked from made
-logical_typed_linked_lem b number code chain made from x linked =
+    → logical_typed b number code chain ≡ Ok made → IsLinked from chain → IsLinked from made
+logical_typed_linked_lem b number code chain made from is linked =
+    let x = logical_typed_is b number code chain made is in
     subst (λ (l : List Ebr). IsLinked from l) (sym x.is)
     (kept chain from x.place (Some (record x.partition { kind = x.kind })) x.is_logical.within linked)
 
 pub logical_deleted_linked_lem : (number : ℕ) (chain : List Ebr) (labels : List Labelled) (made : List Ebr) (left : List Labelled)
-    (from : Option Lba) → LogicalDeleted number chain labels made left → IsLinked from chain → IsLinked from made
-logical_deleted_linked_lem number chain labels made left from x linked =
+    (from : Option Lba) → logical_deleted number chain labels ≡ Ok (made, left) → IsLinked from chain → IsLinked from made
+logical_deleted_linked_lem number chain labels made left from is linked =
+    let x = logical_deleted_is number chain labels made left is in
     subst (λ (l : List Ebr). IsLinked from l) (sym x.is) (kept chain from x.place None x.is_logical.within linked)
 
 walk_linked : (d : Sectors) (x : Span) (from : Option Lba) (list : List Ebr) → Walk d x from list None → IsLinked from list

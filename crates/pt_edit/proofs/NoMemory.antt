@@ -1,267 +1,323 @@
 -- No word is refused for lack of memory: that refusal is the program's alone.
-use Rattle.std.specs.Prelude.{◌≡◌, ℕ, List, [], ◌∷◌, Option, Some, None, Result, Err}
-use Rattle.std.proofs.Common.{refl, inl, inr}
-use Rattle.pt_guid.specs.declared.guid.Guid.{Guid}
+use Rattle.std.specs.Prelude.{◌≡◌, ℕ, Bool, true, false, cond, not, nat_eq, List, [], ◌∷◌, Option, Some, None, Result, Ok}
+use Rattle.std.specs.Prelude.{Err, ok_or}
+use Rattle.std.proofs.Common.{ap, sym}
 use Rattle.pt_gpt.specs.declared.table.Table.{Table}
-use Rattle.pt_mbr.specs.declared.record.Record.{Record}
+use Rattle.pt_guid.specs.declared.guid.Guid.{Guid}
 use Rattle.pt_mbr.specs.declared.ebr.Ebr.{Ebr}
-use Rattle.pt_members.specs.declared.layout.Layout.{Layout}
+use Rattle.pt_mbr.specs.declared.record.Record.{Record}
 use Rattle.pt_members.specs.declared.layout.Body.{Body}
 use Rattle.pt_members.specs.declared.layout.Body.TheVariants.{Mbr, Gpt}
+use Rattle.pt_members.specs.declared.layout.Labelled.{Labelled}
+use Rattle.pt_members.specs.declared.layout.Layout.{Layout}
+use Rattle.pt_words.specs.declared.asked.Asked.{Asked}
 use Rattle.pt_words.specs.declared.error.Refusal.{Refusal}
-use Rattle.pt_words.specs.declared.error.Refusal.TheVariants.{Memory}
+use Rattle.pt_words.specs.declared.error.Refusal.TheVariants.{Memory, NoSpace, OutsideUsable, Overlap, NoSuchPartition, NumberTaken}
+use Rattle.pt_words.specs.declared.error.Refusal.TheVariants.{NotForThisTable, UnknownCode, ContainerType, ForeignLabel, LabelOffset}
+use Rattle.pt_words.specs.declared.error.Refusal.TheVariants.{NameTooLong, SameGuid, NoFreshGuid, NoRoomForGpt}
 use Rattle.pt_words.specs.declared.word.Code.{Code}
 use Rattle.pt_words.specs.declared.word.End.{End}
 use Rattle.pt_words.specs.declared.word.Edit.{Edit}
 use Rattle.pt_words.specs.declared.word.Edit.TheVariants.{Align, New, Delete, SetKind, SetName, SetUnique, SetDisk, SetBit, Extend, ToGpt}
 use Rattle.pt_words.specs.declared.word.Edit.TheVariants.{Empty}
-use Rattle.pt_edit.specs.Space.{Area, NotLed, record_outside, record_taken, NotStarted, no_room, not_usable, not_free, not_led, NotEnded}
-use Rattle.pt_edit.specs.Space.{before_start, past_usable, past_block, NotPlaced, no_start, no_end}
-use Rattle.pt_edit.proofs.Retyped.{not_retyped_real}
+use Rattle.pt_edit.specs.declared.partitions.Partition.{Partition}
+use Rattle.pt_edit.specs.declared.space.Run.{Run}
+use Rattle.pt_edit.specs.Space.{◌>>=◌, Area, led, started_at, started, past_end, ended, placed}
 use Rattle.pt_edit.specs.SliceLabels as parts
-use Rattle.pt_edit.specs.Chains as chains
-use Rattle.pt_edit.specs.Records.{OfMbr}
+use Rattle.pt_edit.specs.Entries as entries
 use Rattle.pt_edit.specs.Records as numbers
-use Rattle.pt_edit.specs.MbrEdits as typed
-use Rattle.pt_edit.specs.Converted as converted
-use Rattle.pt_edit.specs.Entries as changes
-use Rattle.pt_edit.specs.Edited.{State, initial, EmptyRefused, InKind, NotTyped, NotDeleted, NotMade, asked_for, RefusesOn, RefusedOf}
-use Rattle.pt_edit.specs.Edited.{Refuses, WordsEnd, EditedFrom, Edited}
-use Rattle.pt_edit.specs.Edited as edited
-use Rattle.pt_words.specs.declared.asked.Asked.{Asked}
-use Rattle.pt_edit.proofs.FourRecords.{either_kind}
+use Rattle.pt_edit.specs.Chains as chains
+use Rattle.pt_edit.specs.MbrEdits as records
+use Rattle.pt_edit.specs.Converted as conversion
+use Rattle.pt_edit.specs.Edited.{State, initial, emptied, in_kind, typed, deleted, made, asked_for, made_of, step_of, step, edited_from}
+use Rattle.pt_edit.specs.Edited.{Edited}
+
+-- it isn't lack of memory
+record Real {A : Type 0} (r : Result A Refusal) : Type 0 where
+  pub not : r ≡ Err Memory → ⊥
+
+of : {A : Type 0} (x : A) → Real (Ok x)
+of x = record { not = λ is. absurd cc }
+
+refused : {A : Type 0} (e : Refusal) → (e ≡ Memory → ⊥) → Real {A = A} (Err e)
+refused e not = record { not = λ is. not cc }
+
+steps : {A B : Type 0} (r : Result A Refusal) (f : A → Result B Refusal) → Real r → ((x : A) → Real (f x)) → Real (r >>= f)
+steps (Ok x) f now next = next x
+steps {A} (Err e) f now next = refused e (λ same. now.not (ap (λ (x : Refusal). Err x) same))
+
+given : {A : Type 0} (o : Option A) (e : Refusal) → (e ≡ Memory → ⊥) → Real (ok_or o e)
+given None e not = refused e not
+given (Some x) e not = of x
+
+either : {A : Type 0} (b : Bool) (r q : Result A Refusal) → Real r → Real q → Real (cond b r q)
+either true r q one two = one
+either false r q one two = two
+
+unless : {A : Type 0} (b : Bool) (e : Refusal) (r : Result A Refusal) → (e ≡ Memory → ⊥) → Real r → Real (cond b (Err e) r)
+unless true e r not real = refused e not
+unless false e r not real = real
+
+no_space : NoSpace ≡ Memory → ⊥
+no_space e = absurd cc
+
+outside : OutsideUsable ≡ Memory → ⊥
+outside e = absurd cc
+
+overlap : Overlap ≡ Memory → ⊥
+overlap e = absurd cc
+
+missing : NoSuchPartition ≡ Memory → ⊥
+missing e = absurd cc
+
+taken : NumberTaken ≡ Memory → ⊥
+taken e = absurd cc
+
+no_table : NotForThisTable ≡ Memory → ⊥
+no_table e = absurd cc
+
+unknown : UnknownCode ≡ Memory → ⊥
+unknown e = absurd cc
+
+container : ContainerType ≡ Memory → ⊥
+container e = absurd cc
+
+foreign : ForeignLabel ≡ Memory → ⊥
+foreign e = absurd cc
+
+no_offset : LabelOffset ≡ Memory → ⊥
+no_offset e = absurd cc
+
+long_name : NameTooLong ≡ Memory → ⊥
+long_name e = absurd cc
+
+same_guid : SameGuid ≡ Memory → ⊥
+same_guid e = absurd cc
+
+no_fresh : NoFreshGuid ≡ Memory → ⊥
+no_fresh e = absurd cc
+
+too_small : NoRoomForGpt ≡ Memory → ⊥
+too_small e = absurd cc
+
+ruleset real = (
+  steps,
+  given,
+  unless,
+  either,
+  of,
+  refused,
+  no_space,
+  outside,
+  overlap,
+  missing,
+  taken,
+  no_table,
+  unknown,
+  container,
+  foreign,
+)
+
+ruleset also = (no_offset, long_name, same_guid, no_fresh, too_small)
 
 -- places
-led : (a : Area) (empties : Option (List ℕ)) (first : ℕ) (r : Refusal) → NotLed a empties first r → r ≡ Memory → ⊥
-led a None first r x e = x
-led a (Some empties) first r (record_outside x is) e = absurd cc
-led a (Some empties) first r (record_taken k x y z is) e = absurd cc
+led_real : (a : Area) (empties : Option (List ℕ)) (part : Run) → Real (led a empties part)
+led_real a None part = of part
+led_real a (Some empties) part = unless _ OutsideUsable _ outside (unless _ Overlap _ overlap (of part))
 
-started : (a : Area) (alignment start : ℕ) (r : Refusal) → NotStarted a alignment start r → r ≡ Memory → ⊥
-started a alignment start r (no_room x y is) e = absurd cc
-started a alignment start r (not_usable x y is) e = absurd cc
-started a alignment start r (not_free x y z is) e = absurd cc
-started a alignment start r (not_led x y z) e = led a a.empties _ r z e
+started_real : (a : Area) (alignment start : ℕ) → Real (started a alignment start)
+unfolding started started_at
+started_real a alignment start =
+    either (nat_eq start 0) _ _ (given _ NoSpace no_space)
+    (steps {A = Run} _ _ (either _ (ok_or _ Overlap) (Err OutsideUsable) (given _ Overlap overlap) (refused OutsideUsable outside))
+    (λ block. led_real a a.empties _))
 
-ended : (high last first : ℕ) (end : End) (r : Refusal) → NotEnded high last first end r → r ≡ Memory → ⊥
-ended high last first end r (before_start x is) e = absurd cc
-ended high last first end r (past_usable x y is) e = absurd cc
-ended high last first end r (past_block x y z is) e = absurd cc
+ended_real : (high : ℕ) (part : Run) (past : ℕ) → Real (ended high part past)
+ended_real high part past = unless _ NoSpace _ no_space (unless _ OutsideUsable _ outside (unless _ Overlap _ overlap (of _)))
 
-placed : (a : Area) (alignment start : ℕ) (end : End) (r : Refusal) → NotPlaced a alignment start end r → r ≡ Memory → ⊥
-placed a alignment start end r (no_start x) e = started a alignment start r x e
-placed a alignment start end r (no_end b first x y) e = ended a.high b.last first end r y e
+placed_real : (a : Area) (alignment start : ℕ) (end : End) → Real (placed a alignment start end)
+unfolding placed
+placed_real a alignment start end =
+    steps (started a alignment start) _ (started_real a alignment start) (λ part. ended_real a.high part (past_end part end))
 
 -- partitions of labels
-entry : (b : ℕ) (o : Layout) (number letter : ℕ) (r : Refusal) → parts.NoEntry b o number letter r → r ≡ Memory → ⊥
-entry b o number letter r (parts.no_slice x is) e = absurd cc
-entry b o number letter r (parts.no_label m x y is) e = absurd cc
-entry b o number letter r (parts.is_raw m l x y z is) e = absurd cc
-entry b o number letter r (parts.uncounted m l x y z u is) e = absurd cc
+entry_real : (b : ℕ) (o : Layout) (number letter : ℕ) → Real (parts.entry_at b o number letter)
+unfolding parts.entry_at
+entry_real b o number letter = search (real, also) depth 30 fits 4000
 
-part : (b : ℕ) (o : Layout) (number letter : ℕ) (r : Refusal) → parts.NoPart b o number letter r → r ≡ Memory → ⊥
-part b o number letter r (parts.no_entry x) e = entry b o number letter r x e
-part b o number letter r (parts.unused m l f x y is) e = absurd cc
+part_real : (b : ℕ) (o : Layout) (number letter : ℕ) → Real (parts.part_at b o number letter)
+unfolding parts.part_at
+part_real b o number letter = search (real, also, entry_real) depth 30 fits 4000
 
-part_typed : (b number letter : ℕ) (code : Code) (o : Layout) (r : Refusal) → parts.PartNotTyped b number letter code o r → r ≡ Memory → ⊥
-part_typed b number letter code o r (parts.no_part x) e = part b o number letter r x e
-part_typed b number letter code o r (parts.unknown_code m l f x y is) e = absurd cc
+unused_real : (b : ℕ) (o : Layout) (number letter : ℕ) → Real (parts.unused_at b o number letter)
+unfolding parts.unused_at
+unused_real b o number letter = search (real, also, entry_real) depth 30 fits 4000
 
-unused : (b : ℕ) (o : Layout) (number letter : ℕ) (r : Refusal) → parts.NoUnused b o number letter r → r ≡ Memory → ⊥
-unused b o number letter r (parts.missing x) e = entry b o number letter r x e
-unused b o number letter r (parts.taken m l f x y is) e = absurd cc
+part_typed_real : (b number letter : ℕ) (code : Code) (o : Layout) → Real (parts.part_typed b number letter code o)
+unfolding parts.part_typed
+part_typed_real b number letter code o = search (real, also, part_real) depth 30 fits 4000
 
-part_new : (b number letter alignment start : ℕ) (end : End) (code : Option Code) (o : Layout) (r : Refusal)
-    → parts.PartNotNew b number letter alignment start end code o r → r ≡ Memory → ⊥
-part_new b number letter alignment start end code o r (parts.no_unused x) e = unused b o number letter r x e
-part_new b number letter alignment start end code o r (parts.no_type m l f x y is) e = absurd cc
-part_new b number letter alignment start end code o r (parts.no_place m l f kind x y z) e = placed _ alignment start end r z e
-part_new b number letter alignment start end code o r (parts.no_offset m l f kind run x y z u is) e = absurd cc
+part_deleted_real : (b number letter : ℕ) (o : Layout) → Real (parts.part_deleted b number letter o)
+unfolding parts.part_deleted
+part_deleted_real b number letter o = search (real, also, part_real) depth 30 fits 4000
 
--- logical partitions
-logical_typed : (b number : ℕ) (code : Code) (chain : List Ebr) (r : Refusal) → chains.LogicalNotTyped b number code chain r
-    → r ≡ Memory → ⊥
-logical_typed b number code chain r x e = not_retyped_real _ _ _ _ r x e
+part_new_real : (b letter : ℕ) (a : Asked) (o : Layout) → Real (parts.part_new b letter a o)
+unfolding parts.part_new
+part_new_real b letter a o = search (real, also, unused_real, placed_real) depth 30 fits 4000
 
-logical_deleted : (number : ℕ) (chain : List Ebr) (r : Refusal) → chains.LogicalNotDeleted number chain r → r ≡ Memory → ⊥
-logical_deleted number chain r x e =
-    let is = x.is in
-    absurd cc
+-- records and logical partitions
+logical_typed_real : (b number : ℕ) (code : Code) (chain : List Ebr) → Real (chains.logical_typed b number code chain)
+unfolding chains.logical_typed
+logical_typed_real b number code chain = search (real, also) depth 30 fits 4000
 
-kind_new : (code : Option Code) (r : Refusal) → chains.NoKind code r → r ≡ Memory → ⊥
-kind_new code r (chains.unknown_code x is) e = absurd cc
-kind_new code r (chains.extended_code kind x y is) e = absurd cc
+logical_deleted_real : (number : ℕ) (chain : List Ebr) (labels : List Labelled) → Real (chains.logical_deleted number chain labels)
+unfolding chains.logical_deleted
+logical_deleted_real number chain labels = search (real, also) depth 30 fits 4000
 
-logical_new : (b : ℕ) (extended : Option Record) (chain : List Ebr) (alignment start : ℕ) (end : End) (code : Option Code)
-    (r : Refusal) → chains.LogicalNotNew b extended chain alignment start end code r → r ≡ Memory → ⊥
-logical_new b extended chain alignment start end code r (chains.no_parent x is) e = absurd cc
-logical_new b extended chain alignment start end code r (chains.no_kind p x y) e = kind_new code r y e
-logical_new b extended chain alignment start end code r (chains.no_place p kind x y z) e = placed _ alignment start end r z e
-logical_new b extended chain alignment start end code r (chains.misfit p kind run x y z u is) e = absurd cc
-logical_new b extended chain alignment start end code r (chains.full p kind run x y z u v is) e = absurd cc
+entered_real : (chain : List Ebr) (s : ℕ) (r : Record) → Real (chains.entered chain s r)
+unfolding chains.entered
+entered_real chain s r = by_place (chains.empty_at chain s) where
+  by_place : (o : Option ℕ) → Real (chains.entered_at chain s r o)
+  by_place (Some k) = of _
+  by_place None = unless _ NoSpace _ no_space (of _)
 
--- records
-in_records : {C : Type 0} (y : Body) (Holds : List (Option Record) → List Ebr → Type 0) → OfMbr y Holds
-    → ((rs : List (Option Record)) (chain : List Ebr) → Holds rs chain → C) → C
-in_records (Mbr rs chain) Holds x then = then rs chain x
-in_records (Gpt t) Holds x then = absurd x
+logical_new_real : (b : ℕ) (x : Option Record) (chain : List Ebr) (labels : List Labelled) (a : Asked)
+    → Real (chains.logical_new b x chain labels a)
+unfolding chains.logical_new
+logical_new_real b x chain labels a = search (real, also, placed_real, entered_real) depth 30 fits 4000
 
-primary_typed : (b number : ℕ) (code : Code) (rs : List (Option Record)) (r : Refusal) → typed.PrimaryNotTyped b number code rs r
-    → r ≡ Memory → ⊥
-primary_typed b number code rs r x e = not_retyped_real _ _ _ _ r x e
+record_typed_real : (b number : ℕ) (code : Code) (rs : List (Option Record)) (chain : List Ebr) (o : Layout)
+    → Real (records.record_typed b number code rs chain o)
+unfolding records.record_typed records.primary_typed
+record_typed_real b number code rs chain o = search (real, also, logical_typed_real) depth 30 fits 4000
 
-typed_in : (b number : ℕ) (code : Code) (rs : List (Option Record)) (chain : List Ebr) (r : Refusal)
-    → typed.NotTypedIn b number code rs chain r → r ≡ Memory → ⊥
-typed_in b number code rs chain r (typed.record_not_typed x y) e = primary_typed b number code rs r y e
-typed_in b number code rs chain r (typed.logical_not_typed x y) e = logical_typed b number code chain r y e
+record_deleted_real : (number : ℕ) (rs : List (Option Record)) (chain : List Ebr) (o : Layout)
+    → Real (records.record_deleted number rs chain o)
+unfolding records.record_deleted records.primary_deleted
+record_deleted_real number rs chain o = search (real, also, logical_deleted_real) depth 30 fits 4000
 
-deleted_in : (number : ℕ) (rs : List (Option Record)) (chain : List Ebr) (r : Refusal) → typed.NotDeletedIn number rs chain r
-    → r ≡ Memory → ⊥
-deleted_in number rs chain r (typed.record_not_deleted x y) e =
-    let is = y.is in
-    absurd cc
-deleted_in number rs chain r (typed.logical_not_deleted x y) e = logical_deleted number chain r y e
+record_number_real : (rs : List (Option Record)) (asked : ℕ) → Real (numbers.number_for rs asked)
+record_number_real rs asked = search (real, also) depth 30 fits 4000
 
-numbered : (rs : List (Option Record)) (asked : ℕ) (r : Refusal) → numbers.NotNumbered rs asked r → r ≡ Memory → ⊥
-numbered rs asked r (numbers.past_records x is) e = absurd cc
-numbered rs asked r (numbers.used x y is) e = absurd cc
-numbered rs asked r (numbers.none_unused x y is) e = absurd cc
+record_new_real : (b : ℕ) (a : Asked) (rs : List (Option Record)) (chain : List Ebr) (o : Layout)
+    → Real (records.record_new b a rs chain o)
+unfolding records.record_new records.primary_new
+record_new_real b a rs chain o = search (real, also, logical_new_real, record_number_real, placed_real) depth 30 fits 4000
 
-chosen : (rs : List (Option Record)) (asked : ℕ) (code : Option Code) (r : Refusal) → typed.NotChosen rs asked code r → r ≡ Memory → ⊥
-chosen rs asked code r (typed.not_numbered x) e = numbered rs asked r x e
-chosen rs asked code r (typed.unknown number x y is) e = absurd cc
-chosen rs asked code r (typed.second number kind x y z is) e = absurd cc
+-- a GPT's entries
+table_real : (y : Body) → Real (entries.table_in y)
+table_real (Mbr rs chain) = refused NotForThisTable no_table
+table_real (Gpt t) = of t
 
-record_new : (b asked alignment start : ℕ) (end : End) (code : Option Code) (n : ℕ) (rs : List (Option Record)) (r : Refusal)
-    → typed.RecordNotMade b asked alignment start end code n rs r → r ≡ Memory → ⊥
-record_new b asked alignment start end code n rs r (typed.not_chosen x) e = chosen rs asked code r x e
-record_new b asked alignment start end code n rs r (typed.not_placed number kind x y) e = placed _ alignment start end r y e
-record_new b asked alignment start end code n rs r (typed.too_short number kind run x y z is) e = absurd cc
+named_real : (number : ℕ) (name : List ℕ) (o : Layout) → Real (entries.named number name o)
+unfolding entries.named
+named_real number name o = search (real, also, table_real) depth 30 fits 4000
 
-new_in : (b asked alignment start : ℕ) (end : End) (code : Option Code) (n : ℕ) (rs : List (Option Record)) (chain : List Ebr)
-    (r : Refusal) → typed.NotNewIn b asked alignment start end code n rs chain r → r ≡ Memory → ⊥
-new_in b asked alignment start end code n rs chain r (typed.no_new_record x y) e = record_new b asked alignment start end code n rs r y e
-new_in b asked alignment start end code n rs chain r (typed.no_new_logical x y) e = logical_new b _ chain alignment start end code r y e
+unique_real : (number : ℕ) (guid : Guid) (o : Layout) → Real (entries.unique_set number guid o)
+unfolding entries.unique_set
+unique_real number guid o = search (real, also, table_real) depth 30 fits 4000
+
+bit_real : (number bit : ℕ) (value : Bool) (o : Layout) → Real (entries.bit_set number bit value o)
+unfolding entries.bit_set
+bit_real number bit value o = search (real, also, table_real) depth 30 fits 4000
+
+disk_real : (guid : Guid) (o : Layout) → Real (entries.disk_set guid o)
+unfolding entries.disk_set
+disk_real guid o = search (real, also, table_real) depth 30 fits 4000
+
+extended_real : (b : ℕ) (o : Layout) → Real (entries.extended b o)
+unfolding entries.extended
+extended_real b o = search (real, also, table_real) depth 30 fits 4000
+
+entry_typed_real : (b : ℕ) (t : Table) (number : ℕ) (code : Code) (o : Layout) → Real (entries.entry_typed b t number code o)
+unfolding entries.entry_typed
+entry_typed_real b t number code o = search (real, also) depth 30 fits 4000
+
+entry_deleted_real : (t : Table) (number : ℕ) (o : Layout) → Real (entries.entry_deleted t number o)
+unfolding entries.entry_deleted
+entry_deleted_real t number o = search (real, also) depth 30 fits 4000
+
+entry_number_real : (t : Table) (asked : ℕ) → Real (entries.number_for t asked)
+entry_number_real t asked = search (real, also) depth 30 fits 4000
+
+entry_new_real : (b : ℕ) (t : Table) (a : Asked) (fresh : List Guid) (o : Layout) → Real (entries.entry_new b t a fresh o)
+unfolding entries.entry_new entries.entry_place
+entry_new_real b t a fresh o = search (real, also, entry_number_real, placed_real) depth 30 fits 4000
 
 -- `g`
-conversion : (b : ℕ) (guids : List Guid) (o : Layout) (r : Refusal) → converted.NotConverted b guids o r → r ≡ Memory → ⊥
-conversion b guids o r (converted.no_mbr x is) e = absurd cc
-conversion b guids o r (converted.unknown x y is) e = absurd cc
-conversion b guids o r (converted.no_room x y z is) e = absurd cc
-conversion b guids o r (converted.too_few x y z u is) e = absurd cc
-conversion b guids o r (converted.twins x y z u v is) e = absurd cc
+found_real : (y : Body) → Real (conversion.partitions_in y)
+found_real (Mbr rs chain) = of _
+found_real (Gpt t) = refused NotForThisTable no_table
 
--- entries
-absent : (number : ℕ) (o : Layout) (r : Refusal) → changes.Missing number o r → r ≡ Memory → ⊥
-absent number o r (changes.no_gpt x is) e = absurd cc
-absent number o r (changes.no_entry t x y is) e = absurd cc
+checked_real : (b : ℕ) (guids : List Guid) (o : Layout) (ps : List Partition) → Real (conversion.checked b guids o ps)
+checked_real b guids o ps = search (real, also) depth 30 fits 4000
 
-changed : (number : ℕ) (Barred : Table → Type 0) (why : Refusal) (o : Layout) (r : Refusal) → (why ≡ Memory → ⊥)
-    → changes.NotChanged number Barred why o r → r ≡ Memory → ⊥
-changed number Barred why o r other (changes.missing x) e = absent number o r x e
-changed number Barred why o r other (changes.barred t f x y z is) e =
-    let same : why ≡ Memory = cc in
-    other same
+converted_real : (b : ℕ) (guids : List Guid) (o : Layout) → Real (conversion.converted b guids o)
+unfolding conversion.converted
+converted_real b guids o = search (real, also, found_real, checked_real) depth 30 fits 4000
 
-entry_typed : (b : ℕ) (t : Table) (number : ℕ) (code : Code) (r : Refusal) → changes.EntryNotTyped b t number code r → r ≡ Memory → ⊥
-entry_typed b t number code r x e = not_retyped_real _ _ _ _ r x e
+-- words in order
+kind_real : (y : Body) (f : List (Option Record) → List Ebr → Result Layout Refusal) (g : Table → Result Layout Refusal)
+    → ((rs : List (Option Record)) (chain : List Ebr) → Real (f rs chain)) → ((t : Table) → Real (g t)) → Real (in_kind y f g)
+kind_real (Mbr rs chain) f g one two = one rs chain
+kind_real (Gpt t) f g one two = two t
 
-entry_numbered : (t : Table) (wanted : ℕ) (r : Refusal) → changes.NoNumber t wanted r → r ≡ Memory → ⊥
-entry_numbered t wanted r (changes.no_such_number x is) e = absurd cc
-entry_numbered t wanted r (changes.taken f x is) e = absurd cc
-entry_numbered t wanted r (changes.all_taken x y is) e = absurd cc
+typed_real : (b number : ℕ) (letter : Option ℕ) (code : Code) (o : Layout) → Real (typed b number letter code o)
+unfolding typed
+typed_real b number (Some letter) code o = part_typed_real b number letter code o
+typed_real b number None code o =
+    kind_real o.body _ _ (λ rs chain. record_typed_real b number code rs chain o) (λ t. entry_typed_real b t number code o)
 
-entry_placed : (t : Table) (a : Asked) (r : Refusal) → changes.NoPlace t a r → r ≡ Memory → ⊥
-entry_placed t a r (changes.no_number x) e = entry_numbered t a.number r x e
-entry_placed t a r (changes.no_type number x y is) e = absurd cc
-entry_placed t a r (changes.no_sectors number kind x y z) e = placed _ a.alignment a.start a.end r z e
+deleted_real : (b number : ℕ) (letter : Option ℕ) (o : Layout) → Real (deleted b number letter o)
+unfolding deleted
+deleted_real b number (Some letter) o = part_deleted_real b number letter o
+deleted_real b number None o =
+    kind_real o.body _ _ (λ rs chain. record_deleted_real number rs chain o) (λ t. entry_deleted_real t number o)
 
-entry_new : (b : ℕ) (t : Table) (a : Asked) (fresh : List Guid) (r : Refusal) → changes.EntryNotMade b t a fresh r → r ≡ Memory → ⊥
-entry_new b t a fresh r (changes.no_place x) e = entry_placed t a r x e
-entry_new b t a fresh r (changes.wrong_size number kind run x y is) e = absurd cc
-entry_new b t a fresh r (changes.no_guid number kind run x y z is) e = absurd cc
-entry_new b t a fresh r (changes.same_guid number kind run guid rest x y z u is) e = absurd cc
+made_real : (b : ℕ) (letter : Option ℕ) (a : Asked) (fresh : List Guid) (o : Layout) → Real (made b letter a fresh o)
+unfolding made
+made_real b (Some letter) a fresh o = part_new_real b letter a o
+made_real b None a fresh o =
+    kind_real o.body _ _ (λ rs chain. record_new_real b a rs chain o) (λ t. entry_new_real b t a fresh o)
 
--- words by their path
-not_typed : (b number : ℕ) (letter : Option ℕ) (code : Code) (o : Layout) (r : Refusal) → NotTyped b number letter code o r → r ≡ Memory → ⊥
-not_typed b number (Some letter) code o r x e = part_typed b number letter code o r x e
-not_typed b number None code o r x e =
-    either_kind o.body (typed.RecordNotTyped b number code o r) (λ t. changes.EntryNotTyped b t number code r)
-    (λ y. in_records o.body (λ rs chain. typed.NotTypedIn b number code rs chain r) y (λ rs chain z. typed_in b number code rs chain r z e))
-    (λ t y. entry_typed b t number code r y e)
-    x
+word_real : (b alignment : ℕ) (fresh : List Guid) (w : Edit) (o : Layout) → Real (made_of b alignment fresh w o)
+unfolding made_of
+word_real b alignment fresh (New path start end code) o =
+    made_real b path.letter (asked_for path.number alignment start end code) fresh o
+word_real b alignment fresh (Delete path) o = deleted_real b path.number path.letter o
+word_real b alignment fresh (SetKind path code) o = typed_real b path.number path.letter code o
+word_real b alignment fresh (SetName number name) o = named_real number _ o
+word_real b alignment fresh (SetUnique number guid) o = unique_real number guid o
+word_real b alignment fresh (SetDisk guid) o = disk_real guid o
+word_real b alignment fresh (SetBit number bit value) o = bit_real number bit value o
+word_real b alignment fresh Extend o = extended_real b o
+word_real b alignment fresh ToGpt o = converted_real b fresh o
+word_real b alignment fresh (Align k) o = refused NotForThisTable no_table
+word_real b alignment fresh Empty o = refused NotForThisTable no_table
 
-not_deleted : (b number : ℕ) (letter : Option ℕ) (o : Layout) (r : Refusal) → NotDeleted b number letter o r → r ≡ Memory → ⊥
-not_deleted b number (Some letter) o r x e = part b o number letter r x e
-not_deleted b number None o r x e =
-    either_kind o.body (typed.RecordNotDeleted number o r) (λ t. changes.EntryNotDeleted t number r)
-    (λ y. in_records o.body (λ rs chain. typed.NotDeletedIn number rs chain r) y (λ rs chain z. deleted_in number rs chain r z e))
-    (λ t y. (let is = y.is in absurd cc))
-    x
+of_real : (b : ℕ) (w : Edit) (s : State) → Real (step_of b w s)
+unfolding step_of
+of_real b w s = search (real, also, word_real) depth 30 fits 4000
 
-not_made : (b : ℕ) (letter : Option ℕ) (a : Asked) (fresh : List Guid) (o : Layout) (r : Refusal) → NotMade b letter a fresh o r
-    → r ≡ Memory → ⊥
-not_made b (Some letter) a fresh o r x e = part_new b a.number letter a.alignment a.start a.end a.code o r x e
-not_made b None a fresh o r x e =
-    either_kind o.body (typed.RecordNotNew b a.number a.alignment a.start a.end a.code o r) (λ t. changes.EntryNotMade b t a fresh r)
-    (λ y. in_records o.body (λ rs chain. typed.NotNewIn b a.number a.alignment a.start a.end a.code o.sectors rs chain r) y
-    (λ rs chain z. new_in b a.number a.alignment a.start a.end a.code o.sectors rs chain r z e))
-    (λ t y. entry_new b t a fresh r y e)
-    x
+step_real : (b n : ℕ) (w : Edit) (s : State) → Real (step b n w s)
+unfolding emptied
+step_real b n (Align k) s = of _
+step_real b n Empty s = search (real, also) depth 30 fits 4000
+step_real b n (New path start end code) s = of_real b (New path start end code) s
+step_real b n (Delete path) s = of_real b (Delete path) s
+step_real b n (SetKind path code) s = of_real b (SetKind path code) s
+step_real b n (SetName number name) s = of_real b (SetName number name) s
+step_real b n (SetUnique number guid) s = of_real b (SetUnique number guid) s
+step_real b n (SetDisk guid) s = of_real b (SetDisk guid) s
+step_real b n (SetBit number bit value) s = of_real b (SetBit number bit value) s
+step_real b n Extend s = of_real b Extend s
+step_real b n ToGpt s = of_real b ToGpt s
 
-refuses_on : (b alignment : ℕ) (fresh : List Guid) (w : Edit) (o : Layout) (r : Refusal) → RefusesOn b alignment fresh w o r
-    → r ≡ Memory → ⊥
-refuses_on b alignment fresh (Align k) o r x e = absurd cc
-refuses_on b alignment fresh (New path start end code) o r x e =
-    not_made b path.letter (asked_for path.number alignment start end code) fresh o r x e
-refuses_on b alignment fresh (Delete path) o r x e = not_deleted b path.number path.letter o r x e
-refuses_on b alignment fresh (SetKind path code) o r x e = not_typed b path.number path.letter code o r x e
-refuses_on b alignment fresh (SetName number name) o r x e = changed number _ _ o r (λ same. absurd cc) x e
-refuses_on b alignment fresh (SetUnique number guid) o r x e = changed number _ _ o r (λ same. absurd cc) x e
-refuses_on b alignment fresh (SetDisk guid) o r x e =
-    let is = x.1 in
-    absurd cc
-refuses_on b alignment fresh (SetBit number bit value) o r x e = absent number o r x e
-refuses_on b alignment fresh Extend o r x e =
-    let is = x.1 in
-    absurd cc
-refuses_on b alignment fresh ToGpt o r x e = conversion b fresh o r x e
-refuses_on b alignment fresh Empty o r x e = absurd cc
+from_real : (b n : ℕ) (words : List Edit) (s : State) → Real (edited_from b n words s)
+unfolding edited_from
+from_real b n [] s = given _ NotForThisTable no_table
+from_real b n (w ∷ ws) s = steps (step b n w s) _ (step_real b n w s) (λ t. from_real b n ws t)
 
-refused_of : (b : ℕ) (w : Edit) (alignment : ℕ) (fresh : List Guid) (o : Option Layout) (r : Refusal)
-    → RefusedOf b w alignment fresh o r → r ≡ Memory → ⊥
-refused_of b w alignment fresh None r x e = absurd cc
-refused_of b w alignment fresh (Some o) r x e = refuses_on b alignment fresh w o r x e
-
-emptied : (b n : ℕ) (s : State) (r : Refusal) → EmptyRefused b n s r → r ≡ Memory → ⊥
-emptied b n s r (edited.no_room x is) e = absurd cc
-emptied b n s r (edited.no_guid x y is) e = absurd cc
-
-refuses : (b n : ℕ) (w : Edit) (s : State) (r : Refusal) → Refuses b n w s r → r ≡ Memory → ⊥
-refuses b n (Align k) s r x e = x
-refuses b n (New path start end code) s r x e = refused_of b (New path start end code) s.alignment s.fresh s.layout r x e
-refuses b n (Delete path) s r x e = refused_of b (Delete path) s.alignment s.fresh s.layout r x e
-refuses b n (SetKind path code) s r x e = refused_of b (SetKind path code) s.alignment s.fresh s.layout r x e
-refuses b n (SetName number name) s r x e = refused_of b (SetName number name) s.alignment s.fresh s.layout r x e
-refuses b n (SetUnique number guid) s r x e = refused_of b (SetUnique number guid) s.alignment s.fresh s.layout r x e
-refuses b n (SetDisk guid) s r x e = refused_of b (SetDisk guid) s.alignment s.fresh s.layout r x e
-refuses b n (SetBit number bit value) s r x e = refused_of b (SetBit number bit value) s.alignment s.fresh s.layout r x e
-refuses b n Extend s r x e = refused_of b Extend s.alignment s.fresh s.layout r x e
-refuses b n ToGpt s r x e = refused_of b ToGpt s.alignment s.fresh s.layout r x e
-refuses b n Empty s r x e = emptied b n s r x e
-
-ends : (o : Option Layout) (r : Result Layout Refusal) → WordsEnd o r → r ≡ Err Memory → ⊥
-ends None r x e = absurd cc
-ends (Some o) r x e = absurd cc
-
-from : (b n : ℕ) (words : List Edit) (s : State) (r : Result Layout Refusal) → EditedFrom b n words s r → r ≡ Err Memory → ⊥
-from b n [] s r x e = ends s.layout r x e
-from b n (w ∷ ws) s r (inl (t, takes, rest)) e = from b n ws t r rest e
-from b n (w ∷ ws) s r (inr (f, x, is)) e =
-    let same : f ≡ Memory = cc in
-    refuses b n w s f x same
-
--- words are never refused for lack of memory
 pub memory_is_no_answer_lem : (b n : ℕ) (old : Option Layout) (words : List Edit) (guids : List Guid)
     → Edited b n old words guids (Err Memory) → ⊥
-memory_is_no_answer_lem b n old words guids x = from b n words (initial b old guids) (Err Memory) x refl
+memory_is_no_answer_lem b n old words guids is = (from_real b n words (initial b old guids)).not (sym is)

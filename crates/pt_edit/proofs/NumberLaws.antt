@@ -1,19 +1,21 @@
 -- The laws of numbers, as terms that definitions and proofs above can cite: a new logical partition comes between those
 -- of lower and of higher numbers, and one that goes leaves the others in order.
-use Rattle.std.specs.Prelude.{◌≡◌, ◌<◌, ◌+◌, ◌-◌, ℕ, zero, suc, List, [], ◌∷◌, ◌++◌, length, take, is_some, Option, Some, None}
+use Rattle.std.specs.Prelude.{◌≡◌, ◌<◌, ◌+◌, ◌-◌, ℕ, zero, suc, List, [], ◌∷◌, ◌++◌, length, take, is_some, Option, Some, None, Ok}
 use Rattle.std.specs.Prelude.{if◌then◌else◌}
 use Rattle.std.specs.List.{insert, remove}
-use Rattle.std.proofs.Common.{sym, ap, refl, ◌∙◌, arith}
+use Rattle.std.proofs.Common.{sym, ap, refl, subst, ◌∙◌, arith}
 use Rattle.std.proofs.lemmas.List.Sums.{sum_by-cons}
 use Rattle.pt_mbr.specs.declared.record.Record.{Record}
 use Rattle.pt_mbr.specs.declared.ebr.Ebr.{Ebr}
 use Rattle.pt_members.specs.declared.layout.Labelled.{Labelled}
 use Rattle.pt_members.specs.Members.{used_before}
-use Rattle.pt_words.specs.declared.word.Code.{Code}
-use Rattle.pt_words.specs.declared.word.End.{End}
-use Rattle.pt_edit.specs.Chains.{ebr_at, with_logical, LogicalDeleted, IsPlaceFor, with_ebr, Entered, reused, added, len_of, record_for}
-use Rattle.pt_edit.specs.Chains.{LogicalNew, Logical, logical_in, logicals_of}
+use Rattle.pt_words.specs.declared.asked.Asked.{Asked}
+use Rattle.pt_edit.specs.declared.space.Run.{Run}
+use Rattle.pt_edit.specs.Space.{placed}
+use Rattle.pt_edit.specs.Chains.{ebr_at, with_logical, with_ebr, len_of, record_for}
+use Rattle.pt_edit.specs.Chains.{Logical, logical_in, logicals_of, logical_area, logical_deleted, logical_new, labels_with}
 use Rattle.pt_edit.proofs.LinkLaws.{more, with_ebr_is}
+use Rattle.pt_edit.proofs.RecordSteps.{Entered, IsPlaceFor, added, logical_deleted_is, logical_new_is, reused}
 
 logical : ℕ → Record → Logical
 logical s r = record { at = s; partition = r }
@@ -94,17 +96,27 @@ entered_numbered_lem chain s r n made (added k none few place number is) =
     ∙ (put_at chain k s r place
     ∙ ap (λ (m : ℕ). insert (logicals_of chain) m (record { at = s; partition = r })) (behind_five n (used_before k chain) number))
 
-pub logical_new_numbered_lem : (b : ℕ) (extended : Option Record) (chain : List Ebr) (labels : List Labelled) (alignment start : ℕ)
-    (end : End) (code : Option Code) (made : List Ebr) (left : List Labelled)
-    → (x : LogicalNew b extended chain labels alignment start end code made left)
-    → logicals_of made ≡ insert (logicals_of chain) (x.number - 5)
-    (record { at = x.place.first - 1; partition = record_for x.kind (len_of x.place) })
-logical_new_numbered_lem b extended chain labels alignment start end code made left x =
-    entered_numbered_lem chain (x.place.first - 1) (record_for x.kind (len_of x.place)) x.number made x.entered
+pub logical_new_numbered_lem : (b : ℕ) (x : Record) (chain : List Ebr) (labels : List Labelled) (a : Asked) (made : List Ebr)
+    (left : List Labelled) → logical_new b (Some x) chain labels a ≡ Ok (made, left)
+    → (kind number : ℕ) × (run : Run) × (placed (logical_area x chain) a.alignment a.start a.end ≡ Ok run)
+    × (logicals_of made ≡ insert (logicals_of chain) (number - 5) (record { at = run.first - 1; partition = record_for kind (len_of run) }))
+    × (left ≡ labels_with b kind (len_of run) number labels)
+logical_new_numbered_lem b x chain labels a made left is =
+    let y = logical_new_is b (Some x) chain labels a made left is in
+    let parent = y.is_parent in
+    let same : y.parent ≡ x = cc in (
+      y.kind,
+      y.number,
+      y.place,
+      subst (λ (r : Record). placed (logical_area r chain) a.alignment a.start a.end ≡ Ok y.place) same y.placed,
+      entered_numbered_lem chain (y.place.first - 1) (record_for y.kind (len_of y.place)) y.number made y.entered,
+      y.moved,
+    )
 
 pub logical_deleted_numbered_lem : (number : ℕ) (chain : List Ebr) (labels : List Labelled) (made : List Ebr) (left : List Labelled)
-    → LogicalDeleted number chain labels made left → logicals_of made ≡ remove (logicals_of chain) (number - 5)
-logical_deleted_numbered_lem number chain labels made left x =
+    → logical_deleted number chain labels ≡ Ok (made, left) → logicals_of made ≡ remove (logicals_of chain) (number - 5)
+logical_deleted_numbered_lem number chain labels made left is =
+    let x = logical_deleted_is number chain labels made left is in
     ap logicals_of x.is
     ∙ (emptied chain x.place x.partition x.is_logical.within x.is_logical.has
     ∙ ap (λ (m : ℕ). remove (logicals_of chain) m) (behind_five number (used_before x.place chain) (sym x.is_logical.counted)))

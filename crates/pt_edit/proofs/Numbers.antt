@@ -1,8 +1,9 @@
 -- Where there is room, partitions find their places: their numbers rise from 1 to 128 at most, and their sectors are the disk's.
-use Rattle.std.proofs.Common.{◌≡◌, ◌≢◌, ◌<◌, ◌≤◌, ◌+◌, ◌-◌, ◌*◌, ℕ, zero, suc, Bool, true, false, List, [], ◌∷◌, ◌++◌, length}
+use Rattle.std.proofs.Common.{◌≡◌, ◌<◌, ◌≤◌, ◌+◌, ◌-◌, ◌*◌, ℕ, zero, suc, Bool, true, false, List, [], ◌∷◌, ◌++◌, length}
 use Rattle.std.proofs.Common.{length-append, map, Option, Some, None, refl, sym, ap, ◌∙◌, subst, arith, inl, inr}
-use Rattle.std.specs.Prelude.{Contains, filter, cond}
-use Rattle.std.proofs.lemmas.Bool.{cases_lt}
+use Rattle.std.specs.Prelude.{Contains, filter, cond, nat_lt}
+use Rattle.std.specs.List.{list_any}
+use Rattle.std.proofs.lemmas.Bool.{and_cases, both_ways, ltb-false, or_parts}
 use Rattle.pt_gpt.specs.Copies.{array_len, HasRoom, edge}
 use Rattle.pt_mbr.specs.declared.record.Record.{Record}
 use Rattle.pt_mbr.specs.declared.ebr.Ebr.{Ebr}
@@ -12,18 +13,17 @@ use Rattle.pt_members.specs.declared.layout.Labelled.{Labelled}
 use Rattle.pt_members.specs.declared.layout.Layout.{Layout}
 use Rattle.pt_members.specs.declared.layout.Body.{Body}
 use Rattle.pt_members.specs.declared.layout.Body.TheVariants.{Mbr, Gpt}
-use Rattle.pt_members.specs.declared.member.Kind.TheVariants.{Extended}
 use Rattle.pt_members.specs.declared.member.Member.{Member}
 use Rattle.pt_members.specs.Members.{present, slots, logicals, logicals_as}
+use Rattle.pt_members.specs.Rows.{IsMember, members_of}
 use Rattle.pt_members.specs.Tables.{HasFour}
-use Rattle.pt_members.proofs.Grouped.{from_present, place_member}
-use Rattle.pt_edit.specs.Entries.{partitions, LiesOutside, NoRoom, small, partition, many, member_of, is_kept, is_kept_kind}
-use Rattle.pt_edit.specs.Converted.{IsItemAt}
-use Rattle.pt_edit.specs.inner.Entries.{Placeable}
+use Rattle.pt_members.proofs.ByRows.{place_member}
+use Rattle.pt_members.proofs.Grouped.{from_present}
+use Rattle.pt_edit.specs.Entries.{partitions, is_outsider, is_chain_in_way, no_room, member_of, is_kept}
+use Rattle.pt_edit.specs.inner.Entries.{IsItemAt, Placeable}
 use Rattle.pt_edit.proofs.Kept.{kept_lem, logicals_same}
 use Rattle.pt_edit.proofs.PartsLemmas.{partition_of, primary, primaries, logical, logicals_from, partitions_mbr, partitions_gpt}
-use Rattle.pt_edit.specs.declared.partition.Partition.{Partition}
-use Rattle.pt_edit.proofs.Searches.{not_true}
+use Rattle.pt_edit.specs.declared.partitions.Partition.{Partition}
 
 -- their numbers rise, from low on and below high, and none begins more than one sector past its end
 abbrev pub Rising : ℕ → ℕ → List Partition → Type 0
@@ -125,50 +125,58 @@ unfiltered {X} test (y ∷ ys) x in_xs = by_case (test y) refl (unfiltered test 
       let h = more (subst (λ (l : List X). Contains l x) (ap (λ (c : Bool). cond c (y ∷ filter test ys) (filter test ys)) is) in_xs) in
       ((suc h.0.0, omega (arith, h.0.1), h.0.2), h.1)
 
-kept_is : (b : ℕ) (m : Member) → is_kept m ≡ true → m.kind ≢ Extended
-kept_is b m is same = let e : is_kept_kind m.kind ≡ false = ap is_kept_kind same in not_true (is_kept m) e is
+-- what stands in a place is a member
+stands : (b : ℕ) (o : Layout) (x : Member) → Contains (present (slots b o.body)) x → IsMember b o x
+stands b o x is = place_member b o x (x, from_present (slots b o.body) x is, inl refl)
 
--- and so inside, where there is room
-inside : (b n : ℕ) (rs : List (Option Record)) (chain : List Ebr) (labels : List Labelled) (p : Partition)
-    → ¬ NoRoom b (record { sectors = n; body = Mbr rs chain; labels = labels }) → Contains (partitions (Mbr rs chain)) p
-    → LiesOutside b n p.first p.last → ⊥
-inside b n rs chain labels p room in_ps out =
-    let o : Layout = record { sectors = n; body = Mbr rs chain; labels = labels } in
-    let kept = subst (λ (l : List Member). Contains l (member_of b p)) (sym (kept_lem b rs chain))
-    (mapped (member_of b) (partitions (Mbr rs chain)) p in_ps) in
-    let there = unfiltered is_kept (present (slots b (Mbr rs chain))) (member_of b p) kept in
-    let is_member = place_member b o (member_of b p)
-    (member_of b p, from_present (slots b (Mbr rs chain)) (member_of b p) there.0, inl refl) in
-    room (partition (member_of b p) is_member (kept_is b (member_of b p) there.1, out))
+none_of : {X : Type 0} (p : X → Bool) (xs : List X) (x : X) → list_any p xs ≡ false → Contains xs x → p x ≡ false
+none_of p [] x none is = absurd (omega (arith, is.1))
+none_of p (y ∷ ys) x none (zero, lt, at) = ap p (sym at) ∙ (or_parts (p y) (list_any p ys) none).0
+none_of p (y ∷ ys) x none (suc k, lt, at) = none_of p ys x (or_parts (p y) (list_any p ys) none).1 (k, omega arith, at)
 
-has_room : (b : ℕ) (o : Layout) → ¬ NoRoom b o → HasRoom b o.sectors
-has_room b o room = elim (cases_lt o.sectors (2 * array_len b + 4)) as (λ _. HasRoom b o.sectors) [
-  | inl less ↦ absurd (room (small (λ more. omega arith)))
-  | inr more ↦ more
-]
+module _ (b n : ℕ) (rs : List (Option Record)) (chain : List Ebr) (labels : List Labelled)
+    (room : no_room b (record { sectors = n; body = Mbr rs chain; labels = labels }) ≡ false) where
+  ways : (nat_lt n (2 * array_len b + 4) ≡ false)
+      × (list_any (is_outsider b n) (members_of b (record { sectors = n; body = Mbr rs chain; labels = labels })) ≡ false)
+      × (is_chain_in_way b n (Mbr rs chain) ≡ false)
+  unfolding no_room
+  ways = let (small, rest) = or_parts _ _ room in let (outside, way) = or_parts _ _ rest in (small, outside, way)
 
-few_logicals : (b n : ℕ) (rs : List (Option Record)) (chain : List Ebr) (labels : List Labelled)
-    → ¬ NoRoom b (record { sectors = n; body = Mbr rs chain; labels = labels }) → length (logicals_from 5 chain) ≤ 124
-unfolding logicals
-few_logicals b n rs chain labels room =
-    let same = logicals_same b 5 chain in
-    elim (cases_lt 124 (length (present (logicals_as b 5 chain)))) as (λ _. length (logicals_from 5 chain) ≤ 124) [
-      | inl more ↦ absurd (room (many more))
-      | inr few ↦ omega (arith, same, few)
-    ]
+  -- and so inside, where there is room
+  inside : (p : Partition) → Contains (partitions (Mbr rs chain)) p → p.last ≤ n - edge b
+  inside p in_ps =
+      let kept = subst (λ (l : List Member). Contains l (member_of b p)) (sym (kept_lem b rs chain))
+      (mapped (member_of b) (partitions (Mbr rs chain)) p in_ps) in
+      let there = unfiltered is_kept (present (slots b (Mbr rs chain))) (member_of b p) kept in
+      let none = none_of (is_outsider b n) _ (member_of b p) ways.1
+      (stands b (record { sectors = n; body = Mbr rs chain; labels = labels }) (member_of b p) there.0) in
+      elim (and_cases (is_kept (member_of b p)) _ none) as (λ _. p.last ≤ n - edge b) [
+        | inl other ↦ absurd (both_ways (is_kept (member_of b p)) other there.1)
+        | inr not ↦ ltb-false (n - edge b) p.last (or_parts (nat_lt p.first (edge b)) (nat_lt (n - edge b) p.last) not).1
+      ]
 
-last_in : (b n first last : ℕ) → (LiesOutside b n first last → ⊥) → last ≤ n - edge b
-last_in b n first last not =
-    elim (cases_lt (n - edge b) last) as (λ _. last ≤ n - edge b) [ inl past ↦ absurd (not (inr past)) | inr ok ↦ ok ]
+  few_logicals : length (logicals_from 5 chain) ≤ 124
+  unfolding logicals
+  few_logicals =
+      let same = logicals_same b 5 chain in
+      let few = ltb-false 124 (length (present (logicals_as b 5 chain))) (or_parts _ _ ways.2).1 in
+      omega (arith, same)
+
+  enough_room : HasRoom b n
+  enough_room = ltb-false n (2 * array_len b + 4) ways.0
+
+pub room_for : (b : ℕ) (o : Layout) → no_room b o ≡ false → HasRoom b o.sectors
+unfolding no_room
+room_for b o room = ltb-false o.sectors (2 * array_len b + 4) (or_parts _ _ room).0
 
 placed_mbr : (b n : ℕ) (rs : List (Option Record)) (chain : List Ebr) (labels : List Labelled) → length rs ≡ 4
-    → ¬ NoRoom b (record { sectors = n; body = Mbr rs chain; labels = labels }) → Placeable n (partitions (Mbr rs chain))
+    → no_room b (record { sectors = n; body = Mbr rs chain; labels = labels }) ≡ false → Placeable n (partitions (Mbr rs chain))
 placed_mbr b n rs chain labels four room =
     let ps = partitions (Mbr rs chain) in
-    let enough : HasRoom b n = has_room b (record { sectors = n; body = Mbr rs chain; labels = labels }) room in
+    let enough : HasRoom b n = enough_room b n rs chain labels room in
     let rising : Rising 1 129 ps = all_rising rs chain four (few_logicals b n rs chain labels room) in
-    let last : (k : ℕ) (p : Partition) → IsItemAt ps k p
-    → p.last ≤ n - edge b = λ k p at. last_in b n p.first p.last (inside b n rs chain labels p room (k, at.0, at.1)) in
+    let last : (k : ℕ) (p : Partition) → IsItemAt ps k p → p.last ≤ n - edge b =
+    λ k p at. inside b n rs chain labels room p (k, at.0, at.1) in
     record {
       low = λ k p at. (rising_at 1 129 ps k p rising at).0;
       high = λ k p at. let h = (rising_at 1 129 ps k p rising at).1 in omega arith;
@@ -186,14 +194,14 @@ none_placeable n = record {
   rising = λ i j p q lt one two. absurd (omega (arith, one.0));
 }
 
-pub placed : (b : ℕ) (o : Layout) → HasFour o.body → ¬ NoRoom b o → Placeable o.sectors (partitions o.body)
+pub placed : (b : ℕ) (o : Layout) → HasFour o.body → no_room b o ≡ false → Placeable o.sectors (partitions o.body)
 placed b o four room = by_body o.body refl where
   by_body : (y : Body) → o.body ≡ y → Placeable o.sectors (partitions o.body)
   by_body (Mbr rs chain) is =
       let same : o ≡ record { sectors = o.sectors; body = Mbr rs chain; labels = o.labels } =
       ap (λ (y : Body). record { sectors = o.sectors; body = y; labels = o.labels }) is in
       subst (λ (y : Body). Placeable o.sectors (partitions y)) (sym is)
-      (placed_mbr b o.sectors rs chain o.labels (subst HasFour is four) (subst (λ (x : Layout). ¬ NoRoom b x) same room))
+      (placed_mbr b o.sectors rs chain o.labels (subst HasFour is four) (subst (λ (x : Layout). no_room b x ≡ false) same room))
   by_body (Gpt t) is =
       subst (λ (y : Body). Placeable o.sectors (partitions y)) (sym is)
       (subst (Placeable o.sectors) (sym (partitions_gpt t)) (none_placeable o.sectors))

@@ -1,6 +1,6 @@
 -- Lemmas on specs/Entries.antt: the partitions of an MBR, record by record, for proofs that walk its records and its chain.
 use Rattle.std.specs.Prelude.{◌≡◌, ◌+◌, ◌-◌, ℕ, Bool, true, false, List, [], ◌∷◌, ◌++◌, map, flat_map, option_map, is_some, Option, Some}
-use Rattle.std.specs.Prelude.{None, if◌then◌else◌, nat_eq, ◌&&◌}
+use Rattle.std.specs.Prelude.{option_to_list, None, if◌then◌else◌, nat_eq, ◌&&◌}
 use Rattle.std.proofs.Common.{refl, sym, ap, ◌∙◌, arith, append_assoc}
 use Rattle.pt_gpt.specs.declared.entry.Entry.{Entry}
 use Rattle.pt_gpt.specs.declared.table.Table.{Table}
@@ -16,9 +16,11 @@ use Rattle.pt_members.specs.declared.row.Source.{Source}
 use Rattle.pt_members.specs.declared.row.Source.TheVariants as source
 use Rattle.pt_members.specs.Members.{record_kind, logical_kind, record_member, logical_member, records_as, entries_as, logicals_as, tops}
 use Rattle.pt_members.specs.Members.{logicals, sources, row_of, rows_with, rows}
+use Rattle.pt_members.specs.Rows.{body_rows}
+use Rattle.pt_members.specs.declared.row.Row.{Row}
 use Rattle.pt_members.proofs.Grouped.{kind_extended}
-use Rattle.pt_edit.specs.Entries.{kept_at, partitions, is_kept_kind}
-use Rattle.pt_edit.specs.declared.partition.Partition.{Partition}
+use Rattle.pt_edit.specs.Entries.{kept_of, partitions, is_kept_kind}
+use Rattle.pt_edit.specs.declared.partitions.Partition.{Partition}
 
 -- of a record whose start counts from a sector
 abbrev pub partition_of : ℕ → ℕ → Record → Partition
@@ -58,6 +60,17 @@ logical_kept b k = by_case (nat_eq b 512 && nat_eq k 0xA5) refl where
   by_case false is = rw is refl
 
 -- ---- the row of a record
+
+-- the partition in a place: none where it is unused
+abbrev kept_at : Option Row → List Partition
+kept_at None = []
+kept_at (Some row) = kept_of row
+
+by_place : (os : List (Option Row)) → flat_map kept_of (flat_map option_to_list os) ≡ flat_map kept_at os
+by_place [] = refl
+by_place (None ∷ os) = by_place os
+by_place (Some row ∷ os) = ap (λ (l : List Partition). kept_of row ++ l) (by_place os)
+
 one_record : (b n : ℕ) (r : Option Record)
     → kept_at (row_of (option_map (record_member b n) r) (option_map source.Record r)) ≡ primary n r
 unfolding primary
@@ -124,15 +137,16 @@ entries_rows b n (None ∷ es) = entries_rows b (n + 1) es
 entries_rows b n (Some e ∷ es) = entries_rows b (n + 1) es
 
 rows_mbr : (b : ℕ) (rs : List (Option Record)) (chain : List Ebr)
-    → flat_map kept_at (rows b (Mbr rs chain)) ≡ primaries 1 rs ++ logicals_from 5 chain
+    → flat_map kept_of (body_rows b (Mbr rs chain)) ≡ primaries 1 rs ++ logicals_from 5 chain
 unfolding tops logicals sources
 rows_mbr b rs chain =
-    records_rows b 1 rs (logicals_as b 5 chain) (map (λ (e : Ebr). option_map source.Record e.logical) chain)
+    by_place (rows b (Mbr rs chain))
+    ∙ records_rows b 1 rs (logicals_as b 5 chain) (map (λ (e : Ebr). option_map source.Record e.logical) chain)
     ∙ ap (λ (l : List Partition). primaries 1 rs ++ l) (chain_rows b 5 chain)
 
-rows_gpt : (b : ℕ) (t : Table) → flat_map kept_at (rows b (Gpt t)) ≡ []
+rows_gpt : (b : ℕ) (t : Table) → flat_map kept_of (body_rows b (Gpt t)) ≡ []
 unfolding tops logicals sources
-rows_gpt b t = entries_rows b 1 t.entries
+rows_gpt b t = by_place (rows b (Gpt t)) ∙ entries_rows b 1 t.entries
 
 -- the partitions of four records and a chain
 pub partitions_mbr : (rs : List (Option Record)) (chain : List Ebr) → partitions (Mbr rs chain) ≡ primaries 1 rs ++ logicals_from 5 chain
@@ -143,6 +157,6 @@ pub partitions_gpt : (t : Table) → partitions (Gpt t) ≡ []
 partitions_gpt t = rows_gpt 512 t
 
 -- the size of sectors doesn't matter
-pub any_size : (b : ℕ) (y : Body) → flat_map kept_at (rows b y) ≡ partitions y
+pub any_size : (b : ℕ) (y : Body) → flat_map kept_of (body_rows b y) ≡ partitions y
 any_size b (Mbr rs chain) = rows_mbr b rs chain ∙ sym (partitions_mbr rs chain)
 any_size b (Gpt t) = rows_gpt b t ∙ sym (partitions_gpt t)

@@ -11,7 +11,7 @@ use Rattle.pt_mbr.specs.declared.ebr.Ebr.{Ebr}
 use Rattle.pt_members.specs.declared.member.Member.{Member}
 use Rattle.pt_members.specs.Members.{record_member, entry_member, records_as, entries_as, logicals_as, parts_in, logical_at}
 use Rattle.pt_members.proofs.ByPlace.{record_at, records_len, entry_at, entries_len, logical_at_from, logicals_len, parts_len}
-use Rattle.pt_edit.specs.declared.space.space.Run.{Run}
+use Rattle.pt_edit.specs.declared.space.Run.{Run}
 use Rattle.pt_edit.specs.Space.{run_of, span_of, taken_by, spanned_by}
 
 -- the places before one, and the one

@@ -1,23 +1,25 @@
 -- Words on logical partitions and their chain.
-use Rattle.std.specs.Prelude.{◌≡◌, ◌<◌, ◌+◌, ℕ, false, List, length, slice_index_or, slice_set, Option, Some, None, ◌≤◌, ◌-◌, option_map}
-use Rattle.std.specs.Prelude.{slice_get, if◌then◌else◌, nat_eq, ◌⊎◌, ◌^◌, true, [], ◌∷◌, ◌++◌, flat_map}
+use Rattle.std.specs.Prelude.{◌≡◌, ◌<◌, ◌+◌, ℕ, Bool, List, length, slice_index_or, slice_set, Option, Some, None, ◌≤◌, ◌-◌, option_map}
+use Rattle.std.specs.Prelude.{slice_get, if◌then◌else◌, nat_eq, nat_le, nat_lt, ◌&&◌, ◌||◌, ◌^◌, [], ◌∷◌, ◌++◌, flat_map, find, is_some}
+use Rattle.std.specs.Prelude.{is_none, ok_or, option_and_then, unwrap_or, Result, Ok, Err}
+use Rattle.std.specs.List.{range_with_len}
 use Rattle.pt_mbr.specs.declared.record.Record.{Record}
 use Rattle.pt_mbr.specs.declared.ebr.Ebr.{Ebr}
 use Rattle.pt_members.specs.Members.{used_before, no_ebr, logicals_as}
 use Rattle.pt_members.specs.declared.layout.Labelled.{Labelled}
-use Rattle.pt_edit.specs.SliceLabels.{NotRetyped, lowered, raised, with_new_label}
+use Rattle.pt_edit.specs.SliceLabels.{lowered, raised, with_new_label}
 use Rattle.pt_words.specs.declared.word.Code.{Code}
 use Rattle.pt_words.specs.declared.error.Refusal.{Refusal}
 use Rattle.pt_words.specs.declared.error.Refusal.TheVariants.{NoSuchPartition, UnknownCode, ContainerType, NoSpace}
-use Rattle.pt_edit.specs.Records.{record_type, is_container, new_type, is_slice, OfMbr, HasRecord}
+use Rattle.pt_edit.specs.Records.{record_type, is_container, new_type, is_slice, OfMbr, used_record}
 use Rattle.std.specs.List.{insert}
 use Rattle.pt_sector.specs.declared.address.Lba.{Lba}
 use Rattle.pt_mbr.specs.Chain.{lba, IsUpward}
 use Rattle.pt_bsd.specs.Labels.{empty_of}
 use Rattle.pt_mbr.specs.Records.{is_extended}
-use Rattle.pt_edit.specs.declared.space.space.Run.{Run}
-use Rattle.pt_edit.specs.Space.{Area, taken_by, Placed, NotPlaced}
-use Rattle.pt_words.specs.declared.word.End.{End}
+use Rattle.pt_edit.specs.declared.space.Run.{Run}
+use Rattle.pt_edit.specs.Space.{◌>>=◌, Area, taken_by, placed}
+use Rattle.pt_words.specs.declared.asked.Asked.{Asked}
 use Rattle.pt_members.specs.declared.layout.Layout.{Layout}
 
 -- ## Logical partitions in their chain.
@@ -30,55 +32,37 @@ ebr_at chain k = slice_index_or chain k no_ebr
 abbrev pub number_at : List Ebr → ℕ → ℕ
 number_at chain k = 5 + used_before k chain
 
--- the logical partition of a number: the place of its extended boot record, and its record
-pub record IsLogical (chain : List Ebr) (number k : ℕ) (r : Record) : Type 0 where
-  pub within : k < length chain
-  pub has : (ebr_at chain k).logical ≡ Some r
-  pub counted : number_at chain k ≡ number
+-- the extended boot record at a place has the logical partition of a number
+abbrev pub is_numbered : List Ebr → ℕ → ℕ → Bool
+is_numbered chain number k = is_some (ebr_at chain k).logical && nat_eq (number_at chain k) number
 
--- there is one
-pub record HasLogical (chain : List Ebr) (number : ℕ) : Type 0 where
-  pub place : ℕ
-  pub partition : Record
-  pub is : IsLogical chain number place partition
+-- the place of the extended boot record with the logical partition of a number
+abbrev pub place_of : List Ebr → ℕ → Option ℕ
+place_of chain number = find (is_numbered chain number) (range_with_len 0 (length chain))
+
+-- the logical partition of a number: that place, and its record
+unfoldable pub logical_of : List Ebr → ℕ → Option (ℕ × Record)
+logical_of chain number =
+    option_and_then (λ (k : ℕ). option_map (λ (r : Record). (k, r)) (ebr_at chain k).logical) (place_of chain number)
 
 -- the chain with another logical partition, or none, in the extended boot record at a place
 abbrev pub with_logical : List Ebr → ℕ → Option Record → List Ebr
 with_logical chain k logical = slice_set chain k (record (ebr_at chain k) { logical = logical })
 
--- `t` of a logical partition: it has another type, neither is a container's, and nothing else changes
-pub record LogicalTyped (b number : ℕ) (code : Code) (chain made : List Ebr) : Type 0 where
-  pub place : ℕ
-  pub partition : Record
-  pub kind : ℕ
-  pub is_logical : IsLogical chain number place partition
-  pub known : record_type code ≡ Some kind
-  pub old : is_container b partition.kind ≡ false
-  pub new : is_container b kind ≡ false
-  pub is : made ≡ with_logical chain place (Some (record partition { kind = kind }))
-
--- the same of a place and a record
-abbrev pub IsFound : List Ebr → ℕ → ℕ × Record → Type 0
-IsFound chain number x = IsLogical chain number x.0 x.1
-
--- why it hasn't
-abbrev pub LogicalNotTyped : ℕ → ℕ → Code → List Ebr → Refusal → Type 0
-LogicalNotTyped b number code chain =
-    NotRetyped (IsFound chain number) (record_type code) (λ (x : ℕ × Record). x.1.kind) (is_container b)
+-- `t` of a logical partition: another type, if neither is a container's, and nothing else changes
+unfoldable pub logical_typed : ℕ → ℕ → Code → List Ebr → Result (List Ebr) Refusal
+logical_typed b number code chain = do
+  x ← ok_or (logical_of chain number) NoSuchPartition
+  kind ← ok_or (record_type code) UnknownCode
+  if is_container b x.1.kind || is_container b kind then Err ContainerType
+      else Ok (with_logical chain x.0 (Some (record x.1 { kind = kind })))
 
 -- `d` of a logical partition: its extended boot record stays in the chain, empty, and each higher one has the number
 -- below its own, with its label
-pub record LogicalDeleted (number : ℕ) (chain : List Ebr) (labels : List Labelled) (made : List Ebr) (left : List Labelled) : Type 0 where
-  pub place : ℕ
-  pub partition : Record
-  pub is_logical : IsLogical chain number place partition
-  pub is : made ≡ with_logical chain place None
-  pub moved : left ≡ lowered number labels
-
--- why it doesn't
-pub record LogicalNotDeleted (number : ℕ) (chain : List Ebr) (r : Refusal) : Type 0 where
-  pub none : ¬ HasLogical chain number
-  pub is : r ≡ NoSuchPartition
+unfoldable pub logical_deleted : ℕ → List Ebr → List Labelled → Result (List Ebr × List Labelled) Refusal
+logical_deleted number chain labels = do
+  x ← ok_or (logical_of chain number) NoSuchPartition
+  Ok (with_logical chain x.0 None, lowered number labels)
 
 -- ## How a new logical partition enters a chain.
 --
@@ -86,25 +70,16 @@ pub record LogicalNotDeleted (number : ℕ) (chain : List Ebr) (r : Refusal) : T
 -- extended partition's first sector, below each sector that another may take: there is always one before a new one.
 
 -- it stands in the sector, and has no logical partition
-pub record IsEmptyIn (s : ℕ) (e : Ebr) : Type 0 where
-  pub at : e.at.0 ≡ s
-  pub unused : e.logical ≡ None
+abbrev pub is_empty_in : ℕ → Ebr → Bool
+is_empty_in s e = nat_eq e.at.0 s && is_none e.logical
 
--- the first such one of a chain
-pub record IsEmptyAt (chain : List Ebr) (s k : ℕ) : Type 0 where
-  pub within : k < length chain
-  pub here : IsEmptyIn s (ebr_at chain k)
-  pub before : (j : ℕ) → j < k → ¬ IsEmptyIn s (ebr_at chain j)
-
--- there is none
-abbrev pub NoEmptyIn : List Ebr → ℕ → Type 0
-NoEmptyIn chain s = (k : ℕ) → k < length chain → ¬ IsEmptyIn s (ebr_at chain k)
+-- the place of the first such one
+abbrev pub empty_at : List Ebr → ℕ → Option ℕ
+empty_at chain s = find (λ k. is_empty_in s (ebr_at chain k)) (range_with_len 0 (length chain))
 
 -- the place by its sector: behind those that stand below it, up to the first that doesn't
-pub record IsPlaceFor (chain : List Ebr) (s k : ℕ) : Type 0 where
-  pub within : k ≤ length chain
-  pub before : (j : ℕ) → j < k → (ebr_at chain j).at.0 < s
-  pub behind : k < length chain → s ≤ (ebr_at chain k).at.0
+abbrev pub place_for : List Ebr → ℕ → ℕ
+place_for chain s = unwrap_or (find (λ k. nat_le s (ebr_at chain k).at.0) (range_with_len 0 (length chain))) (length chain)
 
 -- where the one that comes to a place links: where the one before it did; or, with none before it, to the first
 abbrev pub link_at : List Ebr → ℕ → Option Lba
@@ -118,17 +93,17 @@ linked chain k s = if nat_eq k 0 then chain else slice_set chain (k - 1) (record
 abbrev pub with_ebr : List Ebr → ℕ → ℕ → Record → List Ebr
 with_ebr chain k s r = insert (linked chain k s) k (record { at = lba s; logical = Some r; next = link_at chain k })
 
--- a chain with one more logical partition, behind a sector, and its number: the empty extended boot record that stands
--- in the sector has it, or else a new one, which is at most the 128th
-pub data Entered (chain : List Ebr) (s : ℕ) (r : Record) (number : ℕ) (made : List Ebr) : Type 0 where
-  reused : (k : ℕ) → IsEmptyAt chain s k → number ≡ number_at chain k → made ≡ with_logical chain k (Some r) → Entered chain s r number made
-  added : (k : ℕ) → NoEmptyIn chain s → length chain < 128 → IsPlaceFor chain s k → number ≡ number_at chain k
-      → made ≡ with_ebr chain k s r → Entered chain s r number made
+-- a chain with one more logical partition, and its number: an empty extended boot record at a place has it, or a new one, which is at
+-- most the 128th
+abbrev pub entered_at : List Ebr → ℕ → Record → Option ℕ → Result (List Ebr × ℕ) Refusal
+entered_at chain s r (Some k) = Ok (with_logical chain k (Some r), number_at chain k)
+entered_at chain s r None =
+    if nat_le 128 (length chain) then Err NoSpace
+    else Ok (with_ebr chain (place_for chain s) s r, number_at chain (place_for chain s))
 
--- it would take a 129th
-pub record ChainIsFull (chain : List Ebr) (s : ℕ) : Type 0 where
-  pub none : NoEmptyIn chain s
-  pub full : 128 ≤ length chain
+-- the same behind a sector: the empty one that stands there has it, if there is one
+unfoldable pub entered : List Ebr → ℕ → Record → Result (List Ebr × ℕ) Refusal
+entered chain s r = entered_at chain s r (empty_at chain s)
 
 -- ## `n` of a logical partition: where it is placed, and what it makes of the chain and of the labels.
 --
@@ -170,9 +145,8 @@ abbrev pub record_for : ℕ → ℕ → Record
 record_for kind len = record { boot = 0; start_chs = farthest; kind = kind; end_chs = farthest; start = 1; size = len }
 
 -- a slice without a sector for its label, or longer than its label can tell
-pub record IsMisfit (b kind len : ℕ) : Type 0 where
-  pub slice : is_slice b kind ≡ true
-  pub sectors : (len < 2) ⊎ (2 ^ 32 ≤ len)
+abbrev pub is_misfit : ℕ → ℕ → ℕ → Bool
+is_misfit b kind len = is_slice b kind && (nat_lt len 2 || nat_le (2 ^ 32) len)
 
 -- the labels where the logical partitions from a number on have the number above theirs, with the empty label of a new
 -- slice of that number
@@ -180,50 +154,21 @@ abbrev pub labels_with : ℕ → ℕ → ℕ → ℕ → List Labelled → List 
 labels_with b kind len number labels =
     if is_slice b kind then with_new_label number (empty_of len) (raised number labels) else raised number labels
 
--- the type of a new logical partition: no extended one's
-pub record NewKind (code : Option Code) (kind : ℕ) : Type 0 where
-  pub known : new_type code ≡ Some kind
-  pub plain : is_extended kind ≡ false
-
--- why there is none
-pub data NoKind (code : Option Code) (r : Refusal) : Type 0 where
-  unknown_code : new_type code ≡ None → r ≡ UnknownCode → NoKind code r
-  extended_code : (kind : ℕ) → new_type code ≡ Some kind → is_extended kind ≡ true → r ≡ ContainerType → NoKind code r
-
--- a logical partition is put into the chain, behind the sector before it, and its number into the labels
-pub record LogicalNew (b : ℕ) (extended : Option Record) (chain : List Ebr) (labels : List Labelled) (alignment start : ℕ) (end : End)
-    (code : Option Code) (made : List Ebr) (left : List Labelled) : Type 0 where
-  pub parent : Record
-  pub kind : ℕ
-  pub place : Run
-  pub number : ℕ
-  pub is_parent : extended ≡ Some parent
-  pub typed : NewKind code kind
-  pub placed : Placed (logical_area parent chain) alignment start end place
-  pub fits : ¬ IsMisfit b kind (len_of place)
-  pub entered : Entered chain (place.first - 1) (record_for kind (len_of place)) number made
-  pub moved : left ≡ labels_with b kind (len_of place) number labels
-
--- why it isn't: the first of these that holds
-pub data LogicalNotNew (b : ℕ) (extended : Option Record) (chain : List Ebr) (alignment start : ℕ) (end : End) (code : Option Code)
-    (r : Refusal) : Type 0 where
-  no_parent : extended ≡ None → r ≡ NoSuchPartition → LogicalNotNew b extended chain alignment start end code r
-  no_kind : (x : Record) → extended ≡ Some x → NoKind code r → LogicalNotNew b extended chain alignment start end code r
-  no_place : (x : Record) (kind : ℕ) → extended ≡ Some x → NewKind code kind
-      → NotPlaced (logical_area x chain) alignment start end r → LogicalNotNew b extended chain alignment start end code r
-  misfit : (x : Record) (kind : ℕ) (p : Run) → extended ≡ Some x → NewKind code kind
-      → Placed (logical_area x chain) alignment start end p → IsMisfit b kind (len_of p) → r ≡ ContainerType
-      → LogicalNotNew b extended chain alignment start end code r
-  full : (x : Record) (kind : ℕ) (p : Run) → extended ≡ Some x → NewKind code kind
-      → Placed (logical_area x chain) alignment start end p → ¬ IsMisfit b kind (len_of p) → ChainIsFull chain (p.first - 1) → r ≡ NoSpace
-      → LogicalNotNew b extended chain alignment start end code r
+-- a logical partition is put into the chain, behind the sector before it, and its number into the labels; its type is no extended one's
+unfoldable pub logical_new : ℕ → Option Record → List Ebr → List Labelled → Asked → Result (List Ebr × List Labelled) Refusal
+logical_new b extended chain labels a = do
+  parent ← ok_or extended NoSuchPartition
+  kind ← ok_or (new_type a.code) UnknownCode
+  run ← if is_extended kind then Err ContainerType else placed (logical_area parent chain) a.alignment a.start a.end
+  made ← if is_misfit b kind (len_of run) then Err ContainerType else entered chain (run.first - 1) (record_for kind (len_of run))
+  Ok (made.0, labels_with b kind (len_of run) made.1 labels)
 
 -- ## Records that lie on the disk and share no sector, and that `n` keeps them so.
 
 -- a sector of the used record of a number
 pub record InRecord (records : List (Option Record)) (k s : ℕ) : Type 0 where
   pub part : Record
-  pub is_record : HasRecord records k part
+  pub is_record : used_record records k ≡ Some part
   pub from : part.start ≤ s
   pub to : s < part.start + part.size
 

@@ -1,20 +1,23 @@
 -- Words on the entries of a GPT.
-use Rattle.std.specs.Prelude.{ℕ, Bool, true, false, List, [], ◌∷◌, flat_map, Option, Some, None, if◌then◌else◌, ◌≢◌, ◌<◌, ◌⊎◌, ◌-◌}
-use Rattle.std.specs.Prelude.{length, ◌++◌, replicate, ◌≡◌, ◌≤◌, ◌^◌, slice_index_or, slice_set, nat_lt, bit_or, bit_and, nat_eq, ◌&&◌}
-use Rattle.std.specs.Prelude.{◌+◌}
+use Rattle.std.specs.Prelude.{ℕ, Bool, true, false, List, [], ◌∷◌, flat_map, Option, Some, None, if◌then◌else◌, ◌-◌}
+use Rattle.std.specs.Prelude.{length, ◌++◌, replicate, ◌^◌, slice_index_or, slice_set, nat_lt, bit_or, bit_and, nat_eq, ◌&&◌}
+use Rattle.std.specs.Prelude.{◌+◌, ◌*◌, ◌||◌, Result, Ok, Err, ok_or, is_some, is_none, find, slice_get}
+use Rattle.std.specs.List.{list_any, range_with_len}
+use Rattle.std.specs.Str.{bytes_eq}
 use Rattle.pt_members.specs.declared.member.Kind.{Kind}
 use Rattle.pt_members.specs.declared.member.Kind.TheVariants.{Leaf, Slice}
 use Rattle.pt_members.specs.declared.member.Kind.TheVariants as kind
 use Rattle.pt_members.specs.declared.member.Member.{Member}
-use Rattle.pt_members.specs.Members.{number_path, logical_kind, rows, IsMember, present, logicals, is_slice_kind, entries_as}
-use Rattle.pt_edit.specs.declared.partition.Partition.{Partition}
+use Rattle.pt_members.specs.Members.{number_path, logical_kind, present, logicals, is_slice_kind, entries_as}
+use Rattle.pt_members.specs.Rows.{body_rows, members_of}
+use Rattle.pt_edit.specs.declared.partitions.Partition.{Partition}
 use Rattle.pt_members.specs.declared.layout.Body.{Body}
 use Rattle.pt_members.specs.declared.row.Row.{Row}
 use Rattle.pt_members.specs.declared.row.Source.{Source}
 use Rattle.pt_members.specs.declared.row.Source.TheVariants as source
-use Rattle.pt_gpt.specs.Copies.{HasRoom, edge}
+use Rattle.pt_gpt.specs.Copies.{array_len, edge}
 use Rattle.pt_members.specs.declared.layout.Layout.{Layout}
-use Rattle.pt_members.specs.Tables.{IsEbr}
+use Rattle.pt_mbr.specs.declared.ebr.Ebr.{Ebr}
 use Rattle.std.specs.Char.Escape.{encode_utf16}
 use Rattle.std.specs.Str.{chars}
 use Rattle.pt_guid.specs.declared.guid.Guid.{Guid}
@@ -25,13 +28,14 @@ use Rattle.pt_words.specs.declared.error.Refusal.{Refusal}
 use Rattle.pt_words.specs.declared.error.Refusal.TheVariants.{NoSuchPartition, NameTooLong, NotForThisTable, SameGuid, NumberTaken}
 use Rattle.pt_words.specs.declared.error.Refusal.TheVariants.{NoSpace, UnknownCode, ContainerType, NoFreshGuid}
 use Rattle.pt_guid.specs.Codes.{type_of}
-use Rattle.pt_edit.specs.SliceLabels.{without_label, NotRetyped, with_new_label}
+use Rattle.pt_edit.specs.declared.new_entry.NewEntry.{NewEntry}
+use Rattle.pt_edit.specs.SliceLabels.{without_label, with_new_label}
 use Rattle.pt_words.specs.declared.word.Code.{Code}
 use Rattle.pt_words.specs.declared.word.Code.TheVariants.{Two, Four}
 use Rattle.pt_bsd.specs.Labels.{empty_of}
 use Rattle.pt_members.specs.declared.layout.Labelled.{Labelled}
-use Rattle.pt_edit.specs.declared.space.space.Run.{Run}
-use Rattle.pt_edit.specs.Space.{Area, Placed, NotPlaced, taken_by}
+use Rattle.pt_edit.specs.declared.space.Run.{Run}
+use Rattle.pt_edit.specs.Space.{◌>>=◌, Area, placed, taken_by}
 use Rattle.pt_words.specs.declared.asked.Asked.{Asked}
 
 -- ## The partitions of an MBR are its members but the extended one.
@@ -67,32 +71,38 @@ kept_by m (source.Part e) = []
 abbrev pub kept_of : Row → List Partition
 kept_of row = kept_by row.member row.source
 
--- in a place: none where it is unused
-abbrev pub kept_at : Option Row → List Partition
-kept_at None = []
-kept_at (Some row) = kept_of row
-
 -- all of them; a GPT has none
 abbrev pub partitions : Body → List Partition
-partitions body = flat_map kept_at (rows 512 body)
+partitions body = flat_map kept_of (body_rows 512 body)
 
 -- ## Where a layout leaves room for a GPT.
 
 -- what begins and ends at these sectors has one that a new GPT on n sectors can't use; it goes by the two numbers alone, also where
 -- the first is past the last
-abbrev pub LiesOutside : ℕ → ℕ → ℕ → ℕ → Type 0
-LiesOutside b n first last = (first < edge b) ⊎ (n - edge b < last)
+abbrev pub lies_outside : ℕ → ℕ → ℕ → ℕ → Bool
+lies_outside b n first last = nat_lt first (edge b) || nat_lt (n - edge b) last
 
 -- a partition, also one of a label, but not the extended one
-abbrev pub IsOutsider : ℕ → ℕ → Member → Type 0
-IsOutsider b n m = (m.kind ≢ kind.Extended) × LiesOutside b n m.first m.last
+abbrev pub is_outsider : ℕ → ℕ → Member → Bool
+is_outsider b n m = is_kept m && lies_outside b n m.first m.last
 
--- why there is no room
-pub data NoRoom (b : ℕ) (o : Layout) : Type 0 where
-  small : ¬ HasRoom b o.sectors → NoRoom b o
-  partition : (m : Member) → IsMember b o m → IsOutsider b o.sectors m → NoRoom b o
-  ebr : (s : ℕ) → IsEbr o.body s → LiesOutside b o.sectors s s → NoRoom b o
-  many : 124 < length (present (logicals b o.body)) → NoRoom b o
+-- an extended boot record
+abbrev pub is_ebr_outside : ℕ → ℕ → Ebr → Bool
+is_ebr_outside b n e = lies_outside b n e.at.0 e.at.0
+
+abbrev pub chain_of : Body → List Ebr
+chain_of (Mbr records chain) = chain
+chain_of (Gpt t) = []
+
+-- a chain stands in the way: by a record of it, or by more logical partitions than there are numbers for
+abbrev pub is_chain_in_way : ℕ → ℕ → Body → Bool
+is_chain_in_way b n y = list_any (is_ebr_outside b n) (chain_of y) || nat_lt 124 (length (present (logicals b y)))
+
+-- there is no room: the disk is too small, or something lies outside, or there are too many logical partitions
+unfoldable pub no_room : ℕ → Layout → Bool
+no_room b o =
+    nat_lt o.sectors (2 * array_len b + 4)
+    || (list_any (is_outsider b o.sectors) (members_of b o) || is_chain_in_way b o.sectors o.body)
 
 -- ## The name of an entry.
 
@@ -106,95 +116,73 @@ padded units = units ++ replicate (36 - length units) 0
 
 -- ## What words change in a GPT.
 
--- it is the table of a GPT
-abbrev pub IsGpt : Body → Type 0
-IsGpt (Mbr records chain) = ⊥
-IsGpt (Gpt t) = Unit {0}
+-- the table of a GPT
+abbrev pub table_in : Body → Result Table Refusal
+table_in (Mbr records chain) = Err NotForThisTable
+table_in (Gpt t) = Ok t
 
 -- the table's used entry of a number, from 1 on
-pub record HasUsedEntry (t : Table) (number : ℕ) (e : Entry) : Type 0 where
-  pub first : 1 ≤ number
-  pub last : number ≤ length t.entries
-  pub used : slice_index_or t.entries (number - 1) None ≡ Some e
+abbrev pub used_entry : Table → ℕ → Option Entry
+used_entry t number = if nat_eq number 0 then None else slice_index_or t.entries (number - 1) None
 
 -- the table with another entry of a number
 abbrev pub with_entry : Table → ℕ → Entry → Table
 with_entry t number e = record t { entries = slice_set t.entries (number - 1) (Some e) }
 
--- the layout with another body
-abbrev pub with_body : Layout → Body → Layout
-with_body o body = record o { body = body }
+-- the entries without that of a number
+abbrev pub without_entry : Table → ℕ → List (Option Entry)
+without_entry t number = slice_set t.entries (number - 1) None
 
--- a used entry becomes another where that is allowed, and nothing else changes
-pub record Changed (number : ℕ) (Allowed : Table → Type 0) (change : Entry → Entry) (o p : Layout) : Type 0 where
-  pub table : Table
-  pub entry : Entry
-  pub is_table : o.body ≡ Gpt table
-  pub is_entry : HasUsedEntry table number entry
-  pub allowed : Allowed table
-  pub made : p ≡ with_body o (Gpt (with_entry table number (change entry)))
+-- the layout with another table in the place of its own
+abbrev pub with_table : Layout → Table → Layout
+with_table o t = record o { body = Gpt t }
 
--- there is none: no GPT, or no such used entry
-pub data Missing (number : ℕ) (o : Layout) (r : Refusal) : Type 0 where
-  no_gpt : ¬ IsGpt o.body → r ≡ NotForThisTable → Missing number o r
-  no_entry : (t : Table) → o.body ≡ Gpt t → ((e : Entry) → ¬ HasUsedEntry t number e) → r ≡ NoSuchPartition → Missing number o r
+-- `c`: a used entry takes the name, if that isn't too long for it
+unfoldable pub named : ℕ → List ℕ → Layout → Result Layout Refusal
+named number name o = do
+  t ← table_in o.body
+  e ← ok_or (used_entry t number) NoSuchPartition
+  if nat_lt 36 (length (units_of name)) then Err NameTooLong
+      else Ok (with_table o (with_entry t number (record e { name = padded (units_of name) })))
 
--- or it isn't allowed
-pub data NotChanged (number : ℕ) (Barred : Table → Type 0) (why : Refusal) (o : Layout) (r : Refusal) : Type 0 where
-  missing : Missing number o r → NotChanged number Barred why o r
-  barred : (t : Table) (e : Entry) → o.body ≡ Gpt t → HasUsedEntry t number e → Barred t → r ≡ why → NotChanged number Barred why o r
+-- the entry is used, and has this GUID as its own
+abbrev pub has_unique : Guid → Option Entry → Bool
+has_unique guid None = false
+has_unique guid (Some e) = bytes_eq e.unique.0 guid.0
 
--- `c`: a used entry takes the name
-abbrev pub Named : ℕ → List ℕ → Layout → Layout → Type 0
-Named number name o p = Changed number (λ t. length (units_of name) ≤ 36) (λ e. record e { name = padded (units_of name) }) o p
+-- a used entry of another number has it
+abbrev pub is_elsewhere : Table → ℕ → Guid → Bool
+is_elsewhere t number guid = list_any (has_unique guid) (without_entry t number)
 
--- and not where the name is too long for it
-abbrev pub NameRefused : ℕ → List ℕ → Layout → Refusal → Type 0
-NameRefused number name o r = NotChanged number (λ t. 36 < length (units_of name)) NameTooLong o r
-
--- a used entry of another number has this GUID as its own
-pub record IsElsewhere (t : Table) (number : ℕ) (guid : Guid) (k : ℕ) (e : Entry) : Type 0 where
-  pub is_entry : HasUsedEntry t k e
-  pub other : k ≢ number
-  pub same : e.unique ≡ guid
-
--- there is such an entry
-abbrev pub Elsewhere : Table → ℕ → Guid → Type 0
-Elsewhere t number guid = (k : ℕ) × (e : Entry) × IsElsewhere t number guid k e
-
--- `u`: a used entry takes the GUID
-abbrev pub UniqueSet : ℕ → Guid → Layout → Layout → Type 0
-UniqueSet number guid o p = Changed number (λ t. ¬ Elsewhere t number guid) (λ e. record e { unique = guid }) o p
-
--- and not where another has it
-abbrev pub UniqueRefused : ℕ → Guid → Layout → Refusal → Type 0
-UniqueRefused number guid o r = NotChanged number (λ t. Elsewhere t number guid) SameGuid o r
+-- `u`: a used entry takes the GUID, if no other has it
+unfoldable pub unique_set : ℕ → Guid → Layout → Result Layout Refusal
+unique_set number guid o = do
+  t ← table_in o.body
+  e ← ok_or (used_entry t number) NoSuchPartition
+  if is_elsewhere t number guid then Err SameGuid else Ok (with_table o (with_entry t number (record e { unique = guid })))
 
 -- a number of 64 bits with one of them set or cleared; there is no bit past 63
 abbrev pub with_bit : ℕ → ℕ → Bool → ℕ
 with_bit word bit value = if nat_lt bit 64 then (if value then bit_or word (2 ^ bit) else bit_and word (2 ^ 64 - 1 - 2 ^ bit)) else word
 
 -- `A`: an attribute bit of a used entry is set or cleared
-abbrev pub BitSet : ℕ → ℕ → Bool → Layout → Layout → Type 0
-BitSet number bit value o p = Changed number (λ t. Unit {0}) (λ e. record e { attributes = with_bit e.attributes bit value }) o p
-
-abbrev pub BitRefused : ℕ → Layout → Refusal → Type 0
-BitRefused number o r = Missing number o r
-
--- the table becomes another, and nothing else changes
-abbrev pub TableMade : (Table → Table) → Layout → Layout → Type 0
-TableMade change o p = (t : Table) × (o.body ≡ Gpt t) × (p ≡ with_body o (Gpt (change t)))
-
-abbrev pub NoTable : Layout → Refusal → Type 0
-NoTable o r = (¬ IsGpt o.body) × (r ≡ NotForThisTable)
+unfoldable pub bit_set : ℕ → ℕ → Bool → Layout → Result Layout Refusal
+bit_set number bit value o = do
+  t ← table_in o.body
+  e ← ok_or (used_entry t number) NoSuchPartition
+  Ok (with_table o (with_entry t number (record e { attributes = with_bit e.attributes bit value })))
 
 -- `U`: the disk takes the GUID
-abbrev pub DiskSet : Guid → Layout → Layout → Type 0
-DiskSet guid o p = TableMade (λ t. record t { disk = guid }) o p
+unfoldable pub disk_set : Guid → Layout → Result Layout Refusal
+disk_set guid o = do
+  t ← table_in o.body
+  Ok (with_table o (record t { disk = guid }))
 
 -- `e`: the last usable sector is where the present end of the disk allows it
-abbrev pub Extended : ℕ → Layout → Layout → Type 0
-Extended b o p = TableMade (λ t. record t { last = o.sectors - edge b }) o p
+unfoldable pub extended : ℕ → Layout → Result Layout Refusal
+extended b o = do
+  t ← table_in o.body
+  Ok (with_table o (record t { last = o.sectors - edge b }))
 
 -- ## The words `t` and `d` of an entry of a GPT.
 
@@ -207,53 +195,37 @@ abbrev pub entry_type : Code → Option (List ℕ)
 entry_type (Two code) = None
 entry_type (Four code) = type_of code
 
--- `t`: an entry has another type, and neither is the slices'
-pub record EntryTyped (b : ℕ) (t : Table) (number : ℕ) (code : Code) (o p : Layout) : Type 0 where
-  pub entry : Entry
-  pub kind : List ℕ
-  pub is_entry : HasUsedEntry t number entry
-  pub known : entry_type code ≡ Some kind
-  pub old : is_slice b entry.kind.0 ≡ false
-  pub new : is_slice b kind ≡ false
-  pub made : p ≡ with_body o (Gpt (with_entry t number (record entry { kind = record { 0 = kind } })))
-
--- why it hasn't
-abbrev pub EntryNotTyped : ℕ → Table → ℕ → Code → Refusal → Type 0
-EntryNotTyped b t number code = NotRetyped (HasUsedEntry t number) (entry_type code) (λ (e : Entry). e.kind.0) (is_slice b)
+-- `t`: an entry has another type, if neither is the slices'
+unfoldable pub entry_typed : ℕ → Table → ℕ → Code → Layout → Result Layout Refusal
+entry_typed b t number code o = do
+  e ← ok_or (used_entry t number) NoSuchPartition
+  kind ← ok_or (entry_type code) UnknownCode
+  if is_slice b e.kind.0 || is_slice b kind then Err ContainerType
+      else Ok (with_table o (with_entry t number (record e { kind = record { 0 = kind } })))
 
 -- `d`: an entry goes, with the label that it has as a slice
-pub record EntryDeleted (t : Table) (number : ℕ) (o p : Layout) : Type 0 where
-  pub entry : Entry
-  pub is_entry : HasUsedEntry t number entry
-  pub made : p ≡ record {
-    sectors = o.sectors;
-    body = Gpt (record t { entries = slice_set t.entries (number - 1) None });
-    labels = without_label number o.labels;
-  }
-
--- why it doesn't
-pub record EntryNotDeleted (t : Table) (number : ℕ) (r : Refusal) : Type 0 where
-  pub none : (e : Entry) → ¬ HasUsedEntry t number e
-  pub is : r ≡ NoSuchPartition
+unfoldable pub entry_deleted : Table → ℕ → Layout → Result Layout Refusal
+entry_deleted t number o = do
+  e ← ok_or (used_entry t number) NoSuchPartition
+  Ok (record { sectors = o.sectors; body = Gpt (record t { entries = without_entry t number }); labels = without_label number o.labels })
 
 -- ## The word `n` without a letter, in a GPT: a new entry.
 
--- an entry of this number is unused
-pub record IsUnusedEntry (t : Table) (number : ℕ) : Type 0 where
-  pub first : 1 ≤ number
-  pub last : number ≤ length t.entries
-  pub none : slice_index_or t.entries (number - 1) None ≡ None
+-- the entry of a number is unused
+abbrev pub is_unused : List (Option Entry) → ℕ → Bool
+is_unused entries number = is_none (slice_index_or entries (number - 1) None)
+
+-- the lowest number of an unused entry
+abbrev pub lowest_unused : Table → Option ℕ
+lowest_unused t = find (is_unused t.entries) (range_with_len 1 (length t.entries))
 
 -- the number of a new entry: the one that is asked for, or for 0 the lowest that is unused
-pub data TakesNumber (t : Table) (wanted number : ℕ) : Type 0 where
-  given : wanted ≢ 0 → IsUnusedEntry t wanted → number ≡ wanted → TakesNumber t wanted number
-  lowest : wanted ≡ 0 → IsUnusedEntry t number → ((k : ℕ) → IsUnusedEntry t k → number ≤ k) → TakesNumber t wanted number
-
--- why there is none
-pub data NoNumber (t : Table) (wanted : ℕ) (r : Refusal) : Type 0 where
-  no_such_number : length t.entries < wanted → r ≡ NoSuchPartition → NoNumber t wanted r
-  taken : (e : Entry) → HasUsedEntry t wanted e → r ≡ NumberTaken → NoNumber t wanted r
-  all_taken : wanted ≡ 0 → ((k : ℕ) → ¬ IsUnusedEntry t k) → r ≡ NoSpace → NoNumber t wanted r
+abbrev pub number_for : Table → ℕ → Result ℕ Refusal
+number_for t asked =
+    if nat_lt (length t.entries) asked then Err NoSuchPartition
+    else if nat_eq asked 0 then ok_or (lowest_unused t) NoSpace
+    else if is_some (used_entry t asked) then Err NumberTaken
+    else Ok asked
 
 -- the type of a new entry: that of the code, without one a Linux filesystem
 abbrev pub new_type : Option Code → Option (List ℕ)
@@ -264,26 +236,20 @@ new_type (Some code) = entry_type code
 abbrev pub table_area : Table → Area
 table_area t = record { low = t.first; high = t.last; taken = taken_by (entries_as 512 1 t.entries); empties = None }
 
--- the number, the type and the sectors of a new entry
-pub record EntryHasPlace (t : Table) (a : Asked) (number : ℕ) (kind : List ℕ) (run : Run) : Type 0 where
-  pub takes : TakesNumber t a.number number
-  pub known : new_type a.code ≡ Some kind
-  pub placed : Placed (table_area t) a.alignment a.start a.end run
-
--- why there are none
-pub data NoPlace (t : Table) (a : Asked) (r : Refusal) : Type 0 where
-  no_number : NoNumber t a.number r → NoPlace t a r
-  no_type : (number : ℕ) → TakesNumber t a.number number → new_type a.code ≡ None → r ≡ UnknownCode → NoPlace t a r
-  no_sectors : (number : ℕ) (kind : List ℕ) → TakesNumber t a.number number → new_type a.code ≡ Some kind
-      → NotPlaced (table_area t) a.alignment a.start a.end r → NoPlace t a r
-
 abbrev pub run_length : Run → ℕ
 run_length run = run.last - run.first + 1
 
 -- the length is impossible for a slice
-pub record IsWrongSize (b : ℕ) (kind : List ℕ) (run : Run) : Type 0 where
-  pub is_slice : is_slice b kind ≡ true
-  pub wrong : (run_length run < 2) ⊎ (4294967295 < run_length run)
+abbrev pub is_wrong_size : ℕ → List ℕ → Run → Bool
+is_wrong_size b kind run = is_slice b kind && (nat_lt (run_length run) 2 || nat_lt 4294967295 (run_length run))
+
+-- the number, the type and the sectors of a new entry
+unfoldable pub entry_place : ℕ → Table → Asked → Result NewEntry Refusal
+entry_place b t a = do
+  number ← number_for t a.number
+  kind ← ok_or (new_type a.code) UnknownCode
+  run ← placed (table_area t) a.alignment a.start a.end
+  if is_wrong_size b kind run then Err ContainerType else Ok (record { number = number; kind = record { 0 = kind }; run = run })
 
 -- a new entry has no attributes and an empty name
 abbrev pub new_entry_of : List ℕ → Guid → Run → Entry
@@ -309,24 +275,8 @@ with_new_entry b t number kind guid run o = record {
 }
 
 -- `n`: a new entry, with the next fresh GUID
-pub record EntryMade (b : ℕ) (t : Table) (a : Asked) (fresh : List Guid) (o p : Layout) : Type 0 where
-  pub number : ℕ
-  pub kind : List ℕ
-  pub run : Run
-  pub guid : Guid
-  pub rest : List Guid
-  pub place : EntryHasPlace t a number kind run
-  pub size : ¬ IsWrongSize b kind run
-  pub next : fresh ≡ guid ∷ rest
-  pub alone : ¬ Elsewhere t number guid
-  pub made : p ≡ with_new_entry b t number kind guid run o
-
--- why there is none
-pub data EntryNotMade (b : ℕ) (t : Table) (a : Asked) (fresh : List Guid) (r : Refusal) : Type 0 where
-  no_place : NoPlace t a r → EntryNotMade b t a fresh r
-  wrong_size : (number : ℕ) (kind : List ℕ) (run : Run) → EntryHasPlace t a number kind run → IsWrongSize b kind run → r ≡ ContainerType
-      → EntryNotMade b t a fresh r
-  no_guid : (number : ℕ) (kind : List ℕ) (run : Run) → EntryHasPlace t a number kind run → ¬ IsWrongSize b kind run → fresh ≡ []
-      → r ≡ NoFreshGuid → EntryNotMade b t a fresh r
-  same_guid : (number : ℕ) (kind : List ℕ) (run : Run) (guid : Guid) (rest : List Guid) → EntryHasPlace t a number kind run
-      → ¬ IsWrongSize b kind run → fresh ≡ guid ∷ rest → Elsewhere t number guid → r ≡ SameGuid → EntryNotMade b t a fresh r
+unfoldable pub entry_new : ℕ → Table → Asked → List Guid → Layout → Result Layout Refusal
+entry_new b t a fresh o = do
+  spot ← entry_place b t a
+  guid ← ok_or (slice_get fresh 0) NoFreshGuid
+  if is_elsewhere t spot.number guid then Err SameGuid else Ok (with_new_entry b t spot.number spot.kind.0 guid spot.run o)

@@ -10,9 +10,10 @@ use Rattle.pt_members.specs.declared.layout.Labelled.{Labelled}
 use Rattle.pt_members.specs.declared.layout.Layout.{Layout}
 use Rattle.pt_members.specs.declared.member.Kind.TheVariants.{Leaf, Slice, Extended}
 use Rattle.pt_members.specs.declared.member.Member.{Member}
-use Rattle.pt_members.specs.Members.{label_of, slots}
+use Rattle.pt_members.specs.Members.{label_of}
+use Rattle.pt_members.specs.Rows.{body_rows}
 use Rattle.pt_edit.specs.declared.free.FreeBlock.{FreeBlock}
-use Rattle.pt_edit.specs.declared.space.space.Run.{Run}
+use Rattle.pt_edit.specs.declared.space.Run.{Run}
 use Rattle.pt_edit.specs.Chains.{logical_area}
 use Rattle.pt_edit.specs.Entries.{table_area}
 use Rattle.pt_edit.specs.MbrEdits.{disk_area}
@@ -61,9 +62,8 @@ label_place m None = []
 label_place m (Some l) =
     if nat_le m.first m.last && nat_lt m.last (2 ^ 63) then place_of (Some m.path.number) (area_in l m) ∷ [] else []
 
-abbrev pub slice_place : List Labelled → Option Member → List Place
-slice_place labels None = []
-slice_place labels (Some m) = elim m.kind as (λ k. List Place) [
+abbrev pub slice_place : List Labelled → Member → List Place
+slice_place labels m = elim m.kind as (λ k. List Place) [
   | Leaf ↦ []
   | Slice ↦ label_place m (label_of labels m.path.number)
   | Extended ↦ []
@@ -71,7 +71,7 @@ slice_place labels (Some m) = elim m.kind as (λ k. List Place) [
 
 -- the slices in the order of their numbers
 abbrev pub slice_places : ℕ → Layout → List Place
-slice_places b o = flat_map (slice_place o.labels) (slots b o.body)
+slice_places b o = flat_map (λ row. slice_place o.labels row.member) (body_rows b o.body)
 
 -- all of them, the table's own level first
 abbrev pub free_places : ℕ → Layout → List Place

@@ -1,6 +1,7 @@
 -- Words on the records of an MBR.
-use Rattle.std.specs.Prelude.{ℕ, Bool, Option, Some, None, if◌then◌else◌, nat_eq, ◌&&◌, ◌||◌, ◌≡◌, ◌≤◌, ◌-◌, List, slice_index_or}
-use Rattle.std.specs.Prelude.{slice_set, ◌<◌}
+use Rattle.std.specs.Prelude.{ℕ, Bool, Option, Some, None, if◌then◌else◌, nat_eq, nat_le, ◌&&◌, ◌||◌, ◌-◌, List, slice_index_or, slice_set}
+use Rattle.std.specs.Prelude.{Result, Ok, Err, ok_or, find, is_none, not}
+use Rattle.std.specs.List.{range_with_len}
 use Rattle.pt_mbr.specs.Records.{is_extended}
 use Rattle.pt_words.specs.declared.word.Code.{Code}
 use Rattle.pt_words.specs.declared.word.Code.TheVariants.{Two, Four}
@@ -50,13 +51,12 @@ OfMbr (Mbr records chain) Holds = Holds records chain
 OfMbr (Gpt t) Holds = ⊥
 
 -- the numbers of the records of sector 0
-abbrev pub IsPrimary : ℕ → Type 0
-IsPrimary number = (1 ≤ number) × (number ≤ 4)
+abbrev pub is_primary : ℕ → Bool
+is_primary number = nat_le 1 number && nat_le number 4
 
 -- the used record of a number
-pub record HasRecord (records : List (Option Record)) (number : ℕ) (r : Record) : Type 0 where
-  pub primary : IsPrimary number
-  pub used : slice_index_or records (number - 1) None ≡ Some r
+abbrev pub used_record : List (Option Record) → ℕ → Option Record
+used_record records number = if is_primary number then slice_index_or records (number - 1) None else None
 
 -- the records with another thing at a number
 abbrev pub with_record : List (Option Record) → ℕ → Option Record → List (Option Record)
@@ -68,23 +68,18 @@ with_mbr o records chain labels = layout_with o.sectors records chain labels
 
 -- ## The number of a new record.
 
--- a number of no used record
-pub record IsUnusedNumber (records : List (Option Record)) (number : ℕ) : Type 0 where
-  pub primary : IsPrimary number
-  pub unused : slice_index_or records (number - 1) None ≡ None
+-- it is a number of no used record
+abbrev pub is_unused : List (Option Record) → ℕ → Bool
+is_unused records number = is_primary number && is_none (slice_index_or records (number - 1) None)
 
 -- the lowest of these
-pub record IsLowestUnused (records : List (Option Record)) (number : ℕ) : Type 0 where
-  pub unused : IsUnusedNumber records number
-  pub lowest : (k : ℕ) → IsUnusedNumber records k → number ≤ k
+abbrev pub lowest_unused : List (Option Record) → Option ℕ
+lowest_unused records = find (is_unused records) (range_with_len 1 4)
 
 -- the number that is asked for, or for 0 the lowest unused one
-pub data TakesRecordNumber (records : List (Option Record)) (asked number : ℕ) : Type 0 where
-  as_asked : asked ≡ number → IsUnusedNumber records number → TakesRecordNumber records asked number
-  lowest_one : asked ≡ 0 → IsLowestUnused records number → TakesRecordNumber records asked number
-
--- why there is none
-pub data NotNumbered (records : List (Option Record)) (asked : ℕ) (r : Refusal) : Type 0 where
-  past_records : 4 < asked → r ≡ NoSuchPartition → NotNumbered records asked r
-  used : IsPrimary asked → ¬ IsUnusedNumber records asked → r ≡ NumberTaken → NotNumbered records asked r
-  none_unused : asked ≡ 0 → ((k : ℕ) → ¬ IsUnusedNumber records k) → r ≡ NoSpace → NotNumbered records asked r
+abbrev pub number_for : List (Option Record) → ℕ → Result ℕ Refusal
+number_for records asked =
+    if nat_eq asked 0 then ok_or (lowest_unused records) NoSpace
+    else if not (is_primary asked) then Err NoSuchPartition
+    else if is_unused records asked then Ok asked
+    else Err NumberTaken

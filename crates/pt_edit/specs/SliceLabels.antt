@@ -1,33 +1,28 @@
 -- Words on the partitions of a label, and the list of labels.
-use Rattle.std.specs.Prelude.{◌≡◌, ◌⊎◌, Bool, true, Option, Some, None, ◌+◌, ◌-◌, ◌^◌, ◌++◌, ◌∷◌, ℕ, false, List, map, filter}
-use Rattle.std.specs.Prelude.{if◌then◌else◌, nat_eq, nat_lt, ◌<◌, length, slice_index_or, ◌≢◌, slice_set}
+use Rattle.std.specs.Prelude.{Bool, true, Option, Some, None, ◌+◌, ◌-◌, ◌^◌, ◌++◌, ◌∷◌, ℕ, false, List, map, filter, find, ok_or}
+use Rattle.std.specs.Prelude.{if◌then◌else◌, nat_eq, nat_le, nat_lt, ◌&&◌, slice_index_or, slice_set, Result, Ok, Err}
+use Rattle.pt_words.specs.declared.asked.Asked.{Asked}
 use Rattle.pt_words.specs.declared.error.Refusal.{Refusal}
 use Rattle.pt_words.specs.declared.error.Refusal.TheVariants.{NoSuchPartition, UnknownCode, ContainerType, ForeignLabel, NumberTaken}
 use Rattle.pt_words.specs.declared.error.Refusal.TheVariants.{LabelOffset}
+use Rattle.pt_bsd.specs.declared.form.Form.{Form}
+use Rattle.pt_bsd.specs.declared.form.Form.TheVariants.{Relative, Absolute}
 use Rattle.pt_bsd.specs.declared.label.Label.{Label}
 use Rattle.pt_members.specs.declared.layout.Labelled.{Labelled}
 use Rattle.pt_members.specs.declared.layout.Body.{Body}
-use Rattle.pt_members.specs.declared.member.Kind.TheVariants.{Slice, Leaf}
+use Rattle.pt_members.specs.declared.member.Kind.{Kind}
+use Rattle.pt_members.specs.declared.member.Kind.TheVariants.{Slice, Leaf, Extended}
 use Rattle.pt_members.specs.declared.member.Member.{Member}
-use Rattle.pt_members.specs.Members.{number_path, slots, label_of, letter_path, parts_in}
-use Rattle.pt_bsd.specs.Labels.{entry_of_size, form_of, sector_by}
+use Rattle.pt_members.specs.Members.{label_of, letter_path, parts_in}
+use Rattle.pt_members.specs.Rows.{body_rows, member_of}
+use Rattle.pt_bsd.specs.Labels.{entry_of_size, form_of}
 use Rattle.pt_bsd.specs.declared.label.LabelEntry.{LabelEntry}
 use Rattle.pt_members.specs.declared.layout.Layout.{Layout}
 use Rattle.pt_words.specs.declared.word.Code.{Code}
 use Rattle.pt_words.specs.declared.word.Code.TheVariants.{Two, Four}
-use Rattle.pt_words.specs.declared.word.End.{End}
-use Rattle.pt_edit.specs.declared.space.space.Run.{Run}
-use Rattle.pt_edit.specs.Space.{Area, taken_by, Placed, NotPlaced}
-
--- ## Why the word `t` gives what it names no other type: said once for the entries of a GPT, for records and for logical partitions.
-
--- nothing has the number, the code is no type here, or the old type or the new one is a container's: the first of these that holds
-pub data NotRetyped {X K : Type 0} (Has : X → Type 0) (known : Option K) (kind_of : X → K) (container : K → Bool) (r : Refusal)
-    : Type 0 where
-  missing : ((x : X) → ¬ Has x) → r ≡ NoSuchPartition → NotRetyped Has known kind_of container r
-  unknown : (x : X) → Has x → known ≡ None → r ≡ UnknownCode → NotRetyped Has known kind_of container r
-  contains : (x : X) (kind : K) → Has x → known ≡ Some kind → (container (kind_of x) ≡ true) ⊎ (container kind ≡ true)
-      → r ≡ ContainerType → NotRetyped Has known kind_of container r
+use Rattle.pt_edit.specs.declared.labels.parts.PartEntry.{PartEntry}
+use Rattle.pt_edit.specs.declared.space.Run.{Run}
+use Rattle.pt_edit.specs.Space.{◌>>=◌, Area, taken_by, placed}
 
 -- ## The labels of a layout, by the numbers of their slices.
 
@@ -81,50 +76,44 @@ without_logicals labels = labels_below 5 labels
 
 -- ## The slice of a number, in a table of any kind.
 
+abbrev pub is_of_slices : Kind → Bool
+is_of_slices Leaf = false
+is_of_slices Slice = true
+is_of_slices Extended = false
+
 -- the member is a slice of this number
-abbrev pub IsSliceOf : ℕ → Member → Type 0
-IsSliceOf number m = (m.path ≡ number_path number) × (m.kind ≡ Slice)
+abbrev pub is_slice : ℕ → Member → Bool
+is_slice number m = is_of_slices m.kind && nat_eq m.path.number number
 
 -- the slice of a number, primary or logical: where one number stood twice, the first of them
-pub record HasSlice (b : ℕ) (y : Body) (number : ℕ) (m : Member) : Type 0 where
-  pub place : ℕ
-  pub within : place < length (slots b y)
-  pub stands : slice_index_or (slots b y) place None ≡ Some m
-  pub is_slice : IsSliceOf number m
-  pub first : (j : ℕ) (x : Member) → j < place → slice_index_or (slots b y) j None ≡ Some x → ¬ IsSliceOf number x
+unfoldable pub slice_numbered : ℕ → Body → ℕ → Option Member
+slice_numbered b y number = find (is_slice number) (map member_of (body_rows b y))
 
--- ## What a letter names in the label of a slice, and the words `t` and `d` of it.
+-- ## What a letter names in the label of a slice.
 
 -- the letter of the raw entry, c
 abbrev pub raw : ℕ
 raw = 2
 
--- an entry that a slice's label counts, another than c
-pub record HasPartEntry (b : ℕ) (o : Layout) (number letter : ℕ) (m : Member) (l : Label) (e : LabelEntry) : Type 0 where
-  pub slice : HasSlice b o.body number m
-  pub label : label_of o.labels number ≡ Some l
-  pub other : letter ≢ raw
-  pub counted : slice_index_or l.entries letter None ≡ Some e
-
--- why there is none
-pub data NoEntry (b : ℕ) (o : Layout) (number letter : ℕ) (r : Refusal) : Type 0 where
-  no_slice : ((m : Member) → ¬ HasSlice b o.body number m) → r ≡ NoSuchPartition → NoEntry b o number letter r
-  no_label : (m : Member) → HasSlice b o.body number m → label_of o.labels number ≡ None → r ≡ ForeignLabel → NoEntry b o number letter r
-  is_raw : (m : Member) (l : Label) → HasSlice b o.body number m → label_of o.labels number ≡ Some l → letter ≡ raw
-      → r ≡ ContainerType → NoEntry b o number letter r
-  uncounted : (m : Member) (l : Label) → HasSlice b o.body number m → label_of o.labels number ≡ Some l → letter ≢ raw
-      → slice_index_or l.entries letter None ≡ None → r ≡ NoSuchPartition → NoEntry b o number letter r
+-- the entry of a letter in the label of the slice of a number: it is counted, and isn't c
+unfoldable pub entry_at : ℕ → Layout → ℕ → ℕ → Result PartEntry Refusal
+entry_at b o number letter = do
+  slice ← ok_or (slice_numbered b o.body number) NoSuchPartition
+  label ← ok_or (label_of o.labels number) ForeignLabel
+  entry ← if nat_eq letter raw then Err ContainerType else ok_or (slice_index_or label.entries letter None) NoSuchPartition
+  Ok (record { slice = slice; label = label; entry = entry })
 
 -- a partition of a slice's label: such an entry of some size
-pub record HasPart (b : ℕ) (o : Layout) (number letter : ℕ) (m : Member) (l : Label) (e : LabelEntry) : Type 0 where
-  pub entry : HasPartEntry b o number letter m l e
-  pub sized : e.size ≢ 0
+unfoldable pub part_at : ℕ → Layout → ℕ → ℕ → Result PartEntry Refusal
+part_at b o number letter = do
+  spot ← entry_at b o number letter
+  if nat_eq spot.entry.size 0 then Err NoSuchPartition else Ok spot
 
--- why there is none
-pub data NoPart (b : ℕ) (o : Layout) (number letter : ℕ) (r : Refusal) : Type 0 where
-  no_entry : NoEntry b o number letter r → NoPart b o number letter r
-  unused : (m : Member) (l : Label) (e : LabelEntry) → HasPartEntry b o number letter m l e → e.size ≡ 0 → r ≡ NoSuchPartition
-      → NoPart b o number letter r
+-- one that is no partition yet: it has no sectors
+unfoldable pub unused_at : ℕ → Layout → ℕ → ℕ → Result PartEntry Refusal
+unused_at b o number letter = do
+  spot ← entry_at b o number letter
+  if nat_eq spot.entry.size 0 then Ok spot else Err NumberTaken
 
 -- the label with another entry of a letter
 abbrev pub with_part : Label → ℕ → LabelEntry → Label
@@ -138,59 +127,27 @@ with_entry_of number l letter e o = record {
   labels = with_label number (with_part l letter e) o.labels;
 }
 
--- a partition of a label becomes another
-pub record PartMade (b number letter : ℕ) (Becomes : LabelEntry → LabelEntry → Type 0) (o p : Layout) : Type 0 where
-  pub slice : Member
-  pub label : Label
-  pub old : LabelEntry
-  pub new : LabelEntry
-  pub is_part : HasPart b o number letter slice label old
-  pub becomes : Becomes old new
-  pub made : p ≡ with_entry_of number label letter new o
+-- ## The words `t` and `d` with a letter.
 
 -- the type that a code gives a partition of a label: two digits, not 00
 abbrev pub part_type : Code → Option ℕ
 part_type (Two code) = if nat_eq code 0 then None else Some code
 part_type (Four code) = None
 
--- another type, and all else of it as it was
-abbrev pub TypedAs : Code → LabelEntry → LabelEntry → Type 0
-TypedAs code old new = (kind : ℕ) × (part_type code ≡ Some kind) × (new ≡ record old { fstype = kind })
-
--- `t` of a partition of a label: it has another type
-abbrev pub PartTyped : ℕ → ℕ → ℕ → Code → Layout → Layout → Type 0
-PartTyped b number letter code o p = PartMade b number letter (TypedAs code) o p
-
--- why it hasn't
-pub data PartNotTyped (b number letter : ℕ) (code : Code) (o : Layout) (r : Refusal) : Type 0 where
-  no_part : NoPart b o number letter r → PartNotTyped b number letter code o r
-  unknown_code : (m : Member) (l : Label) (e : LabelEntry) → HasPart b o number letter m l e → part_type code ≡ None
-      → r ≡ UnknownCode → PartNotTyped b number letter code o r
-
--- an entry that is all zero
-abbrev pub Zeroed : LabelEntry → LabelEntry → Type 0
-Zeroed old new = new ≡ entry_of_size 0
+-- `t` of a partition of a label: another type, and all else of it as it was
+unfoldable pub part_typed : ℕ → ℕ → ℕ → Code → Layout → Result Layout Refusal
+part_typed b number letter code o = do
+  spot ← part_at b o number letter
+  kind ← ok_or (part_type code) UnknownCode
+  Ok (with_entry_of number spot.label letter (record spot.entry { fstype = kind }) o)
 
 -- `d` of a partition of a label: its entry is all zero
-abbrev pub PartDeleted : ℕ → ℕ → ℕ → Layout → Layout → Type 0
-PartDeleted b number letter o p = PartMade b number letter Zeroed o p
-
--- why it isn't
-abbrev pub PartNotDeleted : ℕ → ℕ → ℕ → Layout → Refusal → Type 0
-PartNotDeleted b number letter o r = NoPart b o number letter r
+unfoldable pub part_deleted : ℕ → ℕ → ℕ → Layout → Result Layout Refusal
+part_deleted b number letter o = do
+  spot ← part_at b o number letter
+  Ok (with_entry_of number spot.label letter (entry_of_size 0) o)
 
 -- ## The word `n` with a letter: a new partition of a slice's label.
-
--- an entry that is no partition yet: it is counted, isn't c, and has no sectors
-pub record HasUnused (b : ℕ) (o : Layout) (number letter : ℕ) (m : Member) (l : Label) (e : LabelEntry) : Type 0 where
-  pub entry : HasPartEntry b o number letter m l e
-  pub empty : e.size ≡ 0
-
--- why there is none
-pub data NoUnused (b : ℕ) (o : Layout) (number letter : ℕ) (r : Refusal) : Type 0 where
-  missing : NoEntry b o number letter r → NoUnused b o number letter r
-  taken : (m : Member) (l : Label) (e : LabelEntry) → HasPartEntry b o number letter m l e → e.size ≢ 0 → r ≡ NumberTaken
-      → NoUnused b o number letter r
 
 -- the type of a new partition: 7 where no code is given
 abbrev pub new_type : Option Code → Option ℕ
@@ -205,41 +162,32 @@ area_in l m = record { low = m.first + 16; high = m.last; taken = taken_by (part
 abbrev pub len_of : Run → ℕ
 len_of run = run.last - run.first + 1
 
--- the offset that the label's form gives to where the sectors start; it and their number fit 32 bits
-pub record HasOffset (l : Label) (m : Member) (run : Run) (offset : ℕ) : Type 0 where
-  pub start : sector_by (form_of l) m.first offset ≡ run.first
-  pub fits : offset < 2 ^ 32
-  pub len : len_of run < 2 ^ 32
+abbrev pub in_32_bits : ℕ → Option ℕ
+in_32_bits k = if nat_lt k (2 ^ 32) then Some k else None
+
+-- the offset that a form gives to a sector of a slice with this first sector, where it fits
+abbrev pub offset_by : Form → ℕ → ℕ → Option ℕ
+offset_by Relative first sector = if nat_le first sector then in_32_bits (sector - first) else None
+offset_by Absolute first sector = in_32_bits sector
+
+abbrev pub offset_in : Label → Member → Run → Option ℕ
+offset_in l m run = offset_by (form_of l) m.first run.first
 
 -- the entry of a new partition: all but its sectors and its type is 0
 abbrev pub new_entry : ℕ → ℕ → ℕ → LabelEntry
 new_entry size offset kind = record { size = size; offset = offset; fragment = 0; fstype = kind; frag = 0; cpg = 0 }
 
+-- `n` of a partition of a label: an unused entry becomes one, with the offset that the label's form gives to where it starts, and
+-- nothing else changes
+unfoldable pub part_new : ℕ → ℕ → Asked → Layout → Result Layout Refusal
+part_new b letter a o = do
+  spot ← unused_at b o a.number letter
+  kind ← ok_or (new_type a.code) UnknownCode
+  run ← placed (area_in spot.label spot.slice) a.alignment a.start a.end
+  offset ← ok_or (offset_in spot.label spot.slice run) LabelOffset
+  size ← ok_or (in_32_bits (len_of run)) LabelOffset
+  Ok (with_entry_of a.number spot.label letter (new_entry size offset kind) o)
+
 -- the partition of a letter in these sectors
 abbrev pub placed_part : Member → ℕ → Run → Member
 placed_part slice letter run = record { path = letter_path slice.path.number letter; kind = Leaf; first = run.first; last = run.last }
-
--- `n` with a letter: an unused entry becomes a partition, and nothing else changes
-pub record PartNew (b number letter alignment start : ℕ) (end : End) (code : Option Code) (o p : Layout) : Type 0 where
-  pub slice : Member
-  pub label : Label
-  pub old : LabelEntry
-  pub kind : ℕ
-  pub run : Run
-  pub offset : ℕ
-  pub is_unused : HasUnused b o number letter slice label old
-  pub is_known : new_type code ≡ Some kind
-  pub is_placed : Placed (area_in label slice) alignment start end run
-  pub is_offset : HasOffset label slice run offset
-  pub made : p ≡ with_entry_of number label letter (new_entry (len_of run) offset kind) o
-
--- why it doesn't
-pub data PartNotNew (b number letter alignment start : ℕ) (end : End) (code : Option Code) (o : Layout) (r : Refusal) : Type 0 where
-  no_unused : NoUnused b o number letter r → PartNotNew b number letter alignment start end code o r
-  no_type : (m : Member) (l : Label) (e : LabelEntry) → HasUnused b o number letter m l e → new_type code ≡ None → r ≡ UnknownCode
-      → PartNotNew b number letter alignment start end code o r
-  no_place : (m : Member) (l : Label) (e : LabelEntry) (kind : ℕ) → HasUnused b o number letter m l e → new_type code ≡ Some kind
-      → NotPlaced (area_in l m) alignment start end r → PartNotNew b number letter alignment start end code o r
-  no_offset : (m : Member) (l : Label) (e : LabelEntry) (kind : ℕ) (run : Run) → HasUnused b o number letter m l e
-      → new_type code ≡ Some kind → Placed (area_in l m) alignment start end run → ((offset : ℕ) → ¬ HasOffset l m run offset)
-      → r ≡ LabelOffset → PartNotNew b number letter alignment start end code o r

@@ -1,15 +1,23 @@
 -- Free sectors, and where a new partition is placed.
 use Rattle.std.specs.Prelude.{◌≡◌, ◌≤◌, ◌⊎◌, ◌+◌, ℕ, List, Contains, Option, Some, None, ◌∷◌, ◌^◌, ◌&&◌, [], flat_map, nat_le, nat_lt}
-use Rattle.std.specs.Prelude.{if◌then◌else◌, ◌≢◌, ◌<◌, ◌-◌, ◌*◌, ◌%◌, nat_eq, length, slice_index_or}
-use Rattle.pt_edit.specs.declared.space.space.Run.{Run}
-use Rattle.pt_edit.specs.declared.space.space.Lead.{Lead}
-use Rattle.pt_edit.specs.declared.space.space.Lead.TheVariants as leads
-use Rattle.pt_edit.specs.declared.space.space.Space.{Space}
+use Rattle.std.specs.Prelude.{if◌then◌else◌, ◌<◌, ◌-◌, ◌*◌, ◌%◌, nat_eq, length, slice_index_or, Bool, not, filter, find, fold, ok_or}
+use Rattle.std.specs.Prelude.{Result, Ok, Err}
+use Rattle.std.specs.List.{list_any, range_with_len}
+use Rattle.pt_edit.specs.declared.space.Run.{Run}
+use Rattle.pt_edit.specs.declared.space.Lead.{Lead}
+use Rattle.pt_edit.specs.declared.space.Lead.TheVariants as leads
+use Rattle.pt_edit.specs.declared.space.Space.{Space}
 use Rattle.pt_members.specs.declared.member.Member.{Member}
 use Rattle.pt_words.specs.declared.word.End.{End}
 use Rattle.pt_words.specs.declared.word.End.TheVariants.{Block, Length, At}
 use Rattle.pt_words.specs.declared.error.Refusal.{Refusal}
 use Rattle.pt_words.specs.declared.error.Refusal.TheVariants.{NoSpace, OutsideUsable, Overlap}
+
+-- a refusal ends the steps of a word
+infixl 10 ◌>>=◌
+abbrev pub ◌>>=◌ : {A B : Type 0} → Result A Refusal → (A → Result B Refusal) → Result B Refusal
+Err r >>= f = Err r
+Ok x >>= f = f x
 
 -- ## The sectors where a partition may be placed: usable ones, taken ones, free ones, and the blocks of the free ones.
 
@@ -57,6 +65,39 @@ pub record AreBlocks (a : Area) (blocks : List Run) : Type 0 where
   pub all : (b : Run) → IsBlock a b → Contains blocks b
   pub ascending : (i j : ℕ) (d : Run) → i < j → j < length blocks → (slice_index_or blocks i d).last < (slice_index_or blocks j d).first
 
+-- ## The same, computed.
+
+-- whether the run has the sector
+abbrev pub holds : ℕ → Run → Bool
+holds k r = nat_le r.first k && nat_le k r.last
+
+-- whether one of them has it
+abbrev pub is_in : List Run → ℕ → Bool
+is_in runs k = list_any (holds k) runs
+
+abbrev pub is_usable : Area → ℕ → Bool
+is_usable a k = nat_le a.low k && nat_le k a.high
+
+-- the usable sectors that aren't taken, in ascending order
+abbrev pub free_sectors : Area → List ℕ
+free_sectors a = filter (λ k. not (is_in a.taken k)) (range_with_len a.low (a.high + 1 - a.low))
+
+-- runs with a sector before them: the first run begins with it, where that comes right behind
+abbrev pub in_front : ℕ → List Run → List Run
+in_front k [] = record { first = k; last = k } ∷ []
+in_front k (r ∷ rs) = if nat_eq (k + 1) r.first then record { first = k; last = r.last } ∷ rs else record { first = k; last = k } ∷ r ∷ rs
+
+-- ascending sectors as runs, each as long as can be
+unfoldable pub grouped : List ℕ → List Run
+grouped [] = []
+grouped (k ∷ ks) = in_front k (grouped ks)
+
+-- all blocks, each behind the one before it; a law says that they are
+unfoldable pub blocks_of : Area → List Run
+blocks_of a = grouped (free_sectors a)
+
+-- ## Sectors for a partition and what stands before it.
+
 -- where an extended boot record may stand
 abbrev pub TakesRecord : Area → List ℕ → ℕ → Type 0
 TakesRecord a empties k = IsUsable a k × ((¬ IsTaken a k) ⊎ Contains empties k)
@@ -93,7 +134,7 @@ span_of (Some m) = if nat_le m.first m.last then record { first = m.first; last 
 abbrev pub spanned_by : List (Option Member) → List Run
 spanned_by places = flat_map span_of places
 
--- ## Where a partition is placed, and why it isn't.
+-- ## Where a partition is placed, or why it isn't.
 
 -- the least multiple of an alignment that isn't below a sector, as a law says; with alignment 0 the sector itself
 abbrev pub rounded_up : ℕ → ℕ → ℕ
@@ -115,78 +156,65 @@ lead_size (Some empties) = 1
 abbrev pub start_of : Area → ℕ → Run → ℕ
 start_of a alignment b = rounded_up alignment (b.first + lead_size a.empties)
 
--- the block's sectors from there on
-abbrev pub room : Area → ℕ → Run → ℕ
-room a alignment b = (b.last + 1) - start_of a alignment b
+-- the block's sectors from there on, where there are some
+abbrev pub part_of : Area → ℕ → Run → Option Run
+part_of a alignment b =
+    if nat_le (start_of a alignment b) b.last then Some (record { first = start_of a alignment b; last = b.last }) else None
 
--- the block with the most room, the lowest of those
-pub record IsLargest (a : Area) (alignment : ℕ) (b : Run) : Type 0 where
-  pub is_block : IsBlock a b
-  pub some : 0 < room a alignment b
-  pub most : (c : Run) → IsBlock a c → room a alignment c ≤ room a alignment b
-  pub lowest : (c : Run) → IsBlock a c → room a alignment c ≡ room a alignment b → b.first ≤ c.first
+-- the longer of two, the first of equal ones
+abbrev pub longer_of : Option Run → Option Run → Option Run
+longer_of best None = best
+longer_of None (Some r) = Some r
+longer_of (Some b) (Some r) = if nat_lt (b.last - b.first) (r.last - r.first) then Some r else Some b
 
--- the first sector of a partition, for the start that a word asks for
-pub data Starts (a : Area) (alignment start first : ℕ) : Type 0 where
-  in_largest : (b : Run) → start ≡ 0 → IsLargest a alignment b → first ≡ start_of a alignment b → Starts a alignment start first
-  at_given : start ≢ 0 → IsFree a first → HasLead a a.empties first → first ≡ rounded_up alignment start → Starts a alignment start first
+-- the longest of these blocks from there on, the lowest of equal ones
+abbrev pub longest : Area → ℕ → List Run → Option Run
+longest a alignment blocks = fold (λ best b. longer_of best (part_of a alignment b)) None blocks
 
--- why a sector doesn't take a partition's extended boot record
-pub data RecordRefused (a : Area) (empties : List ℕ) (first : ℕ) (r : Refusal) : Type 0 where
-  record_outside : ((k : ℕ) → k + 1 ≡ first → ¬ IsUsable a k) → r ≡ OutsideUsable → RecordRefused a empties first r
-  record_taken : (k : ℕ) → k + 1 ≡ first → IsUsable a k → ¬ TakesRecord a empties k → r ≡ Overlap → RecordRefused a empties first r
+-- sectors whose first one has room before it: in the sector there an extended boot record may stand, where one has to
+abbrev pub led : Area → Option (List ℕ) → Run → Result Run Refusal
+led a None part = Ok part
+led a (Some empties) part =
+    if nat_le part.first a.low then Err OutsideUsable
+    else if is_in a.taken (part.first - 1) && not (list_any (nat_eq (part.first - 1)) empties) then Err Overlap
+    else Ok part
 
--- why the sector before a partition's first doesn't lead it
-abbrev pub NotLed : Area → Option (List ℕ) → ℕ → Refusal → Type 0
-NotLed a None first r = ⊥
-NotLed a (Some empties) first r = RecordRefused a empties first r
+-- from a sector on, to the end of the block that has it: no block has a taken one
+unfoldable pub started_at : Area → ℕ → Result Run Refusal
+started_at a first = do
+  block ← if is_usable a first then ok_or (find (holds first) (blocks_of a)) Overlap else Err OutsideUsable
+  led a a.empties (record { first = first; last = block.last })
 
--- why no sector is the first
-pub data NotStarted (a : Area) (alignment start : ℕ) (r : Refusal) : Type 0 where
-  no_room : start ≡ 0 → ((b : Run) → IsBlock a b → room a alignment b ≡ 0) → r ≡ NoSpace → NotStarted a alignment start r
-  not_usable : start ≢ 0 → ¬ IsUsable a (rounded_up alignment start) → r ≡ OutsideUsable → NotStarted a alignment start r
-  not_free : start ≢ 0 → IsUsable a (rounded_up alignment start) → IsTaken a (rounded_up alignment start) → r ≡ Overlap
-      → NotStarted a alignment start r
-  not_led : start ≢ 0 → IsFree a (rounded_up alignment start) → NotLed a a.empties (rounded_up alignment start) r
-      → NotStarted a alignment start r
+-- the sectors from a partition's first one on, for the start that a word asks for: with 0 in the largest block
+unfoldable pub started : Area → ℕ → ℕ → Result Run Refusal
+started a alignment start =
+    if nat_eq start 0 then ok_or (longest a alignment (blocks_of a)) NoSpace else started_at a (rounded_up alignment start)
 
--- the sector after a partition's last one, in a block with that last sector
-abbrev pub past_end : ℕ → ℕ → End → ℕ
-past_end last first Block = last + 1
-past_end last first (Length k) = first + k
-past_end last first (At e) = e + 1
+-- the sector after a partition's last one, among the sectors from its first one on
+abbrev pub past_end : Run → End → ℕ
+past_end part Block = part.last + 1
+past_end part (Length k) = part.first + k
+past_end part (At e) = e + 1
 
--- the partition from a sector on, in a block with that last sector
-pub record Ends (last first : ℕ) (end : End) (r : Run) : Type 0 where
-  pub first_is : r.first ≡ first
-  pub last_is : r.last + 1 ≡ past_end last first end
-  pub some : r.first ≤ r.last
-  pub inside : r.last ≤ last
+-- those that end before a sector, if that lies among them
+abbrev pub ended : ℕ → Run → ℕ → Result Run Refusal
+ended high part past =
+    if nat_le past part.first then Err NoSpace
+    else if nat_lt (high + 1) past then Err OutsideUsable
+    else if nat_lt (part.last + 1) past then Err Overlap
+    else Ok (record { first = part.first; last = past - 1 })
 
--- why there is none
-pub data NotEnded (high last first : ℕ) (end : End) (r : Refusal) : Type 0 where
-  before_start : past_end last first end ≤ first → r ≡ NoSpace → NotEnded high last first end r
-  past_usable : first < past_end last first end → high + 1 < past_end last first end → r ≡ OutsideUsable → NotEnded high last first end r
-  past_block : first < past_end last first end → past_end last first end ≤ high + 1 → last + 1 < past_end last first end
-      → r ≡ Overlap → NotEnded high last first end r
+-- where a partition is placed, or the first reason why it isn't: of its start, and then of its end
+unfoldable pub placed : Area → ℕ → ℕ → End → Result Run Refusal
+placed a alignment start end = do
+  part ← started a alignment start
+  ended a.high part (past_end part end)
 
--- the block that has a partition's first sector
-pub record StartsIn (a : Area) (alignment start : ℕ) (b : Run) (first : ℕ) : Type 0 where
-  pub starts : Starts a alignment start first
-  pub is_block : IsBlock a b
-  pub holds : RunHolds b first
+abbrev pub Placed : Area → ℕ → ℕ → End → Run → Type 0
+Placed a alignment start end r = placed a alignment start end ≡ Ok r
 
--- where a partition is placed
-pub record Placed (a : Area) (alignment start : ℕ) (end : End) (r : Run) : Type 0 where
-  pub block : Run
-  pub starts : StartsIn a alignment start block r.first
-  pub ends : Ends block.last r.first end r
-
--- why none is placed: the first reason, of its start and then of its end
-pub data NotPlaced (a : Area) (alignment start : ℕ) (end : End) (r : Refusal) : Type 0 where
-  no_start : NotStarted a alignment start r → NotPlaced a alignment start end r
-  no_end : (b : Run) (first : ℕ) → StartsIn a alignment start b first → NotEnded a.high b.last first end r
-      → NotPlaced a alignment start end r
+abbrev pub NotPlaced : Area → ℕ → ℕ → End → Refusal → Type 0
+NotPlaced a alignment start end r = placed a alignment start end ≡ Err r
 
 -- ## Lists of runs with the same sectors place alike.
 

@@ -10,10 +10,8 @@ use crate::new_entry::table_space;
 use crate::records::record_space;
 use crate::space::{Run, Space, blocks};
 use crate::{labels, records};
-use pt_mbr::{FIRST_LOGICAL, Record, is_extended_kind};
-use pt_members::{
-    Body, Kind, Labels, Layout, Member, find_label, next_number, numbered_slot, slot_count,
-};
+use pt_mbr::{Record, is_extended_kind};
+use pt_members::{Body, Kind, Labels, Layout, Member, find_label};
 use std::alloc::{AllocError, Global};
 
 /// A block of free sectors.
@@ -113,19 +111,16 @@ fn push_slice(
     alloc: Global,
     list: &mut Vec<FreeBlock>,
     labels: &Labels,
-    slot: Option<Member>,
+    m: &Member,
 ) -> Result<(), AllocError>
-    ensures { OnOk result (Adds (slice_place labels.now slot) list.old.items list.new.items) }
+    ensures { OnOk result (Adds (slice_place labels.now m.now) list.old.items list.new.items) }
 {
-    let Some(m) = slot else {
-        return Ok(());
-    };
     if m.kind != Kind::Slice || m.first > m.last || m.last >= 1 << 63 {
         return Ok(());
     }
     match find_label(labels, m.path.number) {
         Some(label) => {
-            let space = labels::space_in(alloc, label, &m)?;
+            let space = labels::space_in(alloc, label, m)?;
             push_blocks(alloc, list, Some(m.path.number), space)
         }
         None => Ok(()),
@@ -140,11 +135,8 @@ fn push_slices<const B: usize>(
 ) -> Result<(), AllocError>
     ensures { OnOk result (Adds (slice_places B layout.now) list.old.items list.new.items) }
 {
-    let mut logical = FIRST_LOGICAL;
-    for k in 0..slot_count::<B>(&layout.body) {
-        let slot = numbered_slot::<B>(&layout.body, k, logical);
-        push_slice(alloc, list, &layout.labels, slot)?;
-        logical = next_number::<B>(&layout.body, k, logical);
+    for row in layout.body.rows::<B>() {
+        push_slice(alloc, list, &layout.labels, &row.member)?;
     }
     Ok(())
 }

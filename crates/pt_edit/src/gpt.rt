@@ -1,14 +1,18 @@
-//! The layout of a GPT in its parts.
+//! The layout of a GPT in its parts, and the words `U`, `e` and `o`, which change the table itself.
 
-ghost use Rattle.std.specs.Prelude.{◌≡◌, ◌≤◌, IfOk, IfErr, IfSome, IfNone, length};
-ghost use Rattle.pt_gpt.specs.declared.entry.Entry.{Entry};
-ghost use Rattle.pt_edit.specs.Entries.{HasUsedEntry, Missing, NoTable, with_entry};
+ghost use Rattle.std.specs.Prelude.{◌≡◌, ◌≤◌, Err, IfOk, IfErr, IfSome, length};
+ghost use Rattle.pt_sector.specs.Sectors.{IsSectorSize};
+ghost use Rattle.pt_gpt.specs.Copies.{HasRoom};
+ghost use Rattle.pt_edit.specs.Entries.{table_in, used_entry, with_entry, disk_set, extended};
 ghost use Rattle.pt_edit.specs.inner.Entries.{whole_of, without_spot};
+ghost use Rattle.pt_edit.specs.Edited.{empty_gpt};
 
 use crate::labels::drop_label;
-use pt_gpt::{Entry, Table};
+use pt_gpt::{Entries, Entry, MOST_ENTRIES, Table, first_usable};
+use pt_guid::Guid;
 use pt_members::{Body, Labels, Layout};
 use pt_words::Refusal;
+use std::alloc::{AllocError, Global};
 
 /// What the layout of a GPT has.
 #[derive(Drop)]
@@ -20,8 +24,9 @@ pub struct Gpt {
 
 // The table's used entry of a number, from 1 on.
 pub(crate) fn used_entry(table: &Table, number: u64) -> Option<Entry>
-    ensures some { IfSome result (λ e. HasUsedEntry table.now number e) }
-    ensures none { IfNone result ((e : Entry) → ¬ HasUsedEntry table.now number e) }
+    ensures value { result ≡ used_entry table.now number }
+    ensures first { IfSome result (λ _. 1 ≤ number) }
+    ensures last { IfSome result (λ _. number ≤ length table.now.entries) }
 {
     if number == 0 || number > table.entries.len() as u64 {
         return None;
@@ -33,7 +38,7 @@ impl Gpt {
     // The parts of a layout, where it is of a GPT.
     pub(crate) fn of(layout: Layout) -> Result<Gpt, Refusal>
         ensures ok { IfOk result (λ gpt. layout ≡ whole_of gpt) }
-        ensures err { IfErr result (NoTable layout) }
+        ensures err { IfErr result (λ refusal. table_in layout.body ≡ Err refusal) }
     {
         let (sectors, body, labels) = layout.into_parts();
         match body {
@@ -47,7 +52,7 @@ impl Gpt {
     }
 
     // The layout of the parts.
-    pub(crate) fn whole(self) -> Layout
+    fn whole(self) -> Layout
         ensures { result ≡ whole_of self }
     {
         Layout {
@@ -87,15 +92,47 @@ impl Gpt {
     }
 }
 
-// The parts of a layout, with a used entry of its table.
-pub(crate) fn with_used(layout: Layout, number: u64) -> Result<(Gpt, Entry), Refusal>
-    ensures whole { IfOk result (λ r. layout ≡ whole_of r.0) }
-    ensures entry { IfOk result (λ r. HasUsedEntry r.0.table number r.1) }
-    ensures err { IfErr result (Missing number layout) }
+// The layout with another GUID of the disk.
+#[tactic(auto, using(crate::proofs::EntrySteps::with_whole), unfolding(crate::specs::Entries::disk_set))]
+pub(crate) fn set_disk(layout: Layout, guid: &Guid) -> Result<Layout, Refusal>
+    ensures { result ≡ disk_set guid.now layout }
 {
-    let gpt = Gpt::of(layout)?;
-    match used_entry(&gpt.table, number) {
-        Some(entry) => Ok((gpt, entry)),
-        None => Err(Refusal::NoSuchPartition),
-    }
+    let mut gpt = Gpt::of(layout)?;
+    gpt.table.disk = *guid;
+    Ok(gpt.whole())
+}
+
+// The layout with its last usable sector where the present end of the disk allows it.
+#[tactic(auto, using(crate::proofs::EntrySteps::with_whole), unfolding(crate::specs::Entries::extended))]
+pub(crate) fn extend<const B: usize>(layout: Layout) -> Result<Layout, Refusal>
+    requires size { IsSectorSize B }
+    ensures { result ≡ extended B layout }
+{
+    let mut gpt = Gpt::of(layout)?;
+    gpt.table.last = gpt.sectors.saturating_sub(first_usable::<B>());
+    Ok(gpt.whole())
+}
+
+// An empty GPT on a disk that has room for one.
+pub(crate) fn empty<const B: usize>(
+    alloc: Global,
+    sectors: u64,
+    guid: &Guid,
+) -> Result<Layout, AllocError>
+    requires size { IsSectorSize B }
+    requires room { HasRoom B sectors }
+    ensures { IfOk result (λ made. made ≡ empty_gpt B sectors guid.now) }
+{
+    let entries = Vec::from_slice(alloc, &[None; MOST_ENTRIES])?;
+    let first = first_usable::<B>();
+    Ok(Layout {
+        sectors,
+        body: Body::Gpt(Table {
+            disk: *guid,
+            first,
+            last: sectors - first,
+            entries: Entries::new(entries),
+        }),
+        labels: Labels::new(Vec::new(alloc)),
+    })
 }

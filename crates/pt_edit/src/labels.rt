@@ -3,7 +3,6 @@ pub mod laws;
 mod lists;
 mod new;
 mod parts;
-mod slices;
 
 pub use lists::{
     add_label, drop_label, drop_logical_labels, lower_labels, put_label, raise_labels,

@@ -1,32 +1,23 @@
 //! What edit words make of a layout, or of nothing: all words in order, those on a GPT's entries, and `g`, which makes a GPT
 //! of an MBR.
 //!
-//! docs/commands.md has the words, docs/model.md what they mean. Of `g` specs/Entries.antt says what is kept,
-//! specs/Entries.antt where there is room for a GPT, specs/Converted.antt what is made and why not.
+//! docs/commands.md has the words, docs/model.md what they mean. Of `g` specs/Entries.antt says what is kept and where there is
+//! room for a GPT, specs/Converted.antt what is made and why not.
 #![tactic(auto)]
 
 mod convert;
 mod entries;
-mod entry_types;
 mod fold;
 mod free;
 mod gpt;
-mod kinds;
 pub mod labels;
 pub mod laws;
-mod name;
 mod new_entry;
-mod partition;
-mod partition_entries;
 mod partitions;
 mod paths;
 pub mod records;
 mod room;
 pub mod space;
-mod spots;
-mod state;
-mod tables;
-mod twins;
 
 pub use convert::to_gpt;
 pub use fold::edit;

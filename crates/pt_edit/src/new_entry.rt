@@ -1,16 +1,15 @@
 //! The word `n` without a letter, in a GPT: a new entry.
 
-ghost use Rattle.std.specs.Prelude.{◌≡◌, ◌≢◌, ◌≤◌, ◌<◌, ◌^◌, ◌↔◌, ℕ, [], IsTrue, IfOk, IfErr, IfSome, IfNone, ◌∷◌, drop, Some, None};
-ghost use Rattle.pt_edit.specs.Space.{area_of};
-ghost use Rattle.pt_edit.specs.Entries.{IsUnusedEntry, TakesNumber, NoNumber, new_type, table_area, EntryHasPlace, NoPlace, IsWrongSize};
-ghost use Rattle.pt_edit.specs.Entries.{new_entry_of, new_labels, with_new_entry, EntryMade, EntryNotMade, Elsewhere};
+ghost use Rattle.std.specs.Prelude.{◌≡◌, ◌≢◌, ◌≤◌, ◌<◌, ◌^◌, IfOk, IfErr, IfSome, IfNone, Ok, Err, Some, None, false, length, slice_get};
+ghost use Rattle.pt_edit.specs.Space.{area_of, placed};
+ghost use Rattle.pt_edit.specs.Entries.{lowest_unused, number_for, new_type, table_area, is_wrong_size, entry_place, new_entry_of};
+ghost use Rattle.pt_edit.specs.Entries.{new_labels, with_new_entry, entry_new};
 ghost use Rattle.pt_edit.specs.inner.Entries.{whole_of};
 
-use crate::entries::is_elsewhere;
+use crate::entries::{entry_type_of, is_elsewhere, is_slice_kind_of};
 use crate::gpt::{Gpt, used_entry};
 use crate::labels::add_label;
 use crate::space::{Lead, Run, Space, place, taken_by_entries};
-use crate::spots::{entry_type_of, is_slice_kind_of};
 use pt_bsd::empty_label;
 use pt_gpt::{Entry, Table};
 use pt_guid::Guid;
@@ -34,9 +33,9 @@ pub struct NewEntry {
 
 // The lowest number of an unused entry.
 fn lowest_unused(table: &Table) -> Option<u64>
-    ensures some { IfSome result (IsUnusedEntry table.now) }
-    ensures least { IfSome result (λ n. (k : ℕ) → IsUnusedEntry table.now k → n ≤ k) }
-    ensures none { IfNone result ((k : ℕ) → ¬ IsUnusedEntry table.now k) }
+    ensures value { result ≡ lowest_unused table.now }
+    ensures first { IfSome result (λ n. 1 ≤ n) }
+    ensures last { IfSome result (λ n. n ≤ length table.now.entries) }
 {
     for index in 0..table.entries.len() {
         if table.entries.get(index).is_none() {
@@ -48,22 +47,20 @@ fn lowest_unused(table: &Table) -> Option<u64>
 
 // The number of a new entry.
 fn number_for(table: &Table, wanted: u64) -> Result<u64, Refusal>
-    ensures ok { IfOk result (TakesNumber table.now wanted) }
-    ensures err { IfErr result (NoNumber table.now wanted) }
+    ensures value { result ≡ number_for table.now wanted }
+    ensures first { IfOk result (λ n. 1 ≤ n) }
+    ensures last { IfOk result (λ n. n ≤ length table.now.entries) }
 {
     if wanted > table.entries.len() as u64 {
         return Err(Refusal::NoSuchPartition);
     }
     if wanted == 0 {
-        return match lowest_unused(table) {
-            Some(number) => Ok(number),
-            None => Err(Refusal::NoSpace),
-        };
+        return lowest_unused(table).ok_or(Refusal::NoSpace);
     }
-    match used_entry(table, wanted) {
-        Some(_) => Err(Refusal::NumberTaken),
-        None => Ok(wanted),
+    if used_entry(table, wanted).is_some() {
+        return Err(Refusal::NumberTaken);
     }
+    Ok(wanted)
 }
 
 // The type of a new entry.
@@ -91,30 +88,50 @@ pub(crate) fn table_space(alloc: Global, table: &Table) -> Result<Space, AllocEr
     })
 }
 
-// The place of a new entry.
-fn find_spot(alloc: Global, table: &Table, asked: &Asked) -> Result<NewEntry, Refusal>
-    ensures ok { IfOk result (λ s. EntryHasPlace table.now asked.now s.number s.kind.0 s.run) }
-    ensures small { IfOk result (λ s. s.run.first < 2 ^ 64) }
-    ensures fits { IfOk result (λ s. s.run.last < 2 ^ 64) }
-    ensures err { IfErr result (λ refusal. refusal ≢ Refusal.Memory → NoPlace table.now asked.now refusal) }
+// Whether the length is impossible for a slice.
+fn is_wrong_size<const B: usize>(kind: &Guid, run: Run) -> bool
+    requires { run.last < 2 ^ 64 }
+    ensures { result ≡ is_wrong_size B kind.now.0 run }
 {
-    let number = number_for(table, asked.number)?;
-    let kind = match new_type_of(&asked.code) {
-        Some(kind) => kind,
-        None => return Err(Refusal::UnknownCode),
-    };
-    let space = table_space(alloc, table)?;
-    let run = place(space, asked.alignment, asked.start, asked.end)?;
-    Ok(NewEntry { number, kind, run })
+    let length = run.last.saturating_sub(run.first) + 1;
+    is_slice_kind_of::<B>(kind) && (length < 2 || length > LONGEST_SLICE)
 }
 
-// Whether the length is impossible for a slice.
-fn is_wrong_size<const B: usize>(spot: &NewEntry) -> bool
-    requires { spot.now.run.last < 2 ^ 64 }
-    ensures { IsTrue result ↔ IsWrongSize B spot.now.kind.0 spot.now.run }
+// The sectors of a new entry.
+#[tactic(auto, using(crate::proofs::EntrySteps::placed_on_table))]
+fn run_for(alloc: Global, table: &Table, asked: &Asked) -> Result<Run, Refusal>
+    ensures ok { IfOk result (λ run. placed (table_area table.now) asked.now.alignment asked.now.start asked.now.end ≡ Ok run) }
+    ensures first { IfOk result (λ run. run.first < 2 ^ 64) }
+    ensures last { IfOk result (λ run. run.last < 2 ^ 64) }
+    ensures err { IfErr result (λ refusal. refusal ≢ Refusal.Memory
+        → placed (table_area table.now) asked.now.alignment asked.now.start asked.now.end ≡ Err refusal) }
 {
-    let length = spot.run.last.saturating_sub(spot.run.first) + 1;
-    is_slice_kind_of::<B>(&spot.kind) && (length < 2 || length > LONGEST_SLICE)
+    let space = table_space(alloc, table)?;
+    place(space, asked.alignment, asked.start, asked.end)
+}
+
+// The place of a new entry.
+#[tactic(auto, unfolding(crate::specs::Entries::entry_place))]
+fn find_spot<const B: usize>(
+    alloc: Global,
+    table: &Table,
+    asked: &Asked,
+) -> Result<NewEntry, Refusal>
+    ensures ok { IfOk result (λ s. entry_place B table.now asked.now ≡ Ok s) }
+    ensures first { IfOk result (λ s. 1 ≤ s.number) }
+    ensures last { IfOk result (λ s. s.number ≤ length table.now.entries) }
+    ensures small { IfOk result (λ s. s.run.first < 2 ^ 64) }
+    ensures fits { IfOk result (λ s. s.run.last < 2 ^ 64) }
+    ensures size { IfOk result (λ s. is_wrong_size B s.kind.0 s.run ≡ false) }
+    ensures err { IfErr result (λ refusal. refusal ≢ Refusal.Memory → entry_place B table.now asked.now ≡ Err refusal) }
+{
+    let number = number_for(table, asked.number)?;
+    let kind = new_type_of(&asked.code).ok_or(Refusal::UnknownCode)?;
+    let run = run_for(alloc, table, asked)?;
+    if is_wrong_size::<B>(&kind, run) {
+        return Err(Refusal::ContainerType);
+    }
+    Ok(NewEntry { number, kind, run })
 }
 
 // The new entry of a place.
@@ -140,7 +157,7 @@ fn label_new<const B: usize>(
     spot: &NewEntry,
 ) -> Result<Labels, AllocError>
     requires last { spot.now.run.last < 2 ^ 64 }
-    requires size { ¬ IsWrongSize B spot.now.kind.0 spot.now.run }
+    requires size { is_wrong_size B spot.now.kind.0 spot.now.run ≡ false }
     ensures { IfOk result (λ made. made ≡ new_labels B spot.now.number spot.now.kind.0 spot.now.run labels) }
 {
     if !is_slice_kind_of::<B>(&spot.kind) {
@@ -159,8 +176,9 @@ fn put_new<const B: usize>(
 ) -> Result<Layout, AllocError>
     requires first { spot.now.run.first < 2 ^ 64 }
     requires last { spot.now.run.last < 2 ^ 64 }
-    requires unused { IsUnusedEntry gpt.table spot.now.number }
-    requires size { ¬ IsWrongSize B spot.now.kind.0 spot.now.run }
+    requires number { 1 ≤ spot.now.number }
+    requires within { spot.now.number ≤ length gpt.table.entries }
+    requires size { is_wrong_size B spot.now.kind.0 spot.now.run ≡ false }
     ensures { IfOk result (λ made. made ≡ with_new_entry B gpt.table spot.now.number spot.now.kind.0 guid.now spot.now.run (whole_of gpt)) }
 {
     let Gpt {
@@ -178,10 +196,8 @@ fn put_new<const B: usize>(
 }
 
 // The first of the fresh GUIDs.
-#[tactic(auto, using(crate::proofs::Places::first_of))]
 fn next_guid(fresh: &[Guid]) -> Option<Guid>
-    ensures some { IfSome result (λ guid. fresh.now ≡ guid ∷ drop 1 fresh.now) }
-    ensures none { IfNone result (fresh.now ≡ []) }
+    ensures { result ≡ slice_get fresh.now 0 }
 {
     if fresh.is_empty() {
         return None;
@@ -189,45 +205,22 @@ fn next_guid(fresh: &[Guid]) -> Option<Guid>
     Some(fresh[0])
 }
 
-// The place and the GUID of a new entry.
-fn choose<const B: usize>(
-    alloc: Global,
-    table: &Table,
-    asked: &Asked,
-    fresh: &[Guid],
-) -> Result<(NewEntry, Guid), Refusal>
-    ensures place { IfOk result (λ r. EntryHasPlace table.now asked.now r.0.number r.0.kind.0 r.0.run) }
-    ensures small { IfOk result (λ r. r.0.run.first < 2 ^ 64) }
-    ensures fits { IfOk result (λ r. r.0.run.last < 2 ^ 64) }
-    ensures size { IfOk result (λ r. ¬ IsWrongSize B r.0.kind.0 r.0.run) }
-    ensures next { IfOk result (λ r. fresh.now ≡ r.1 ∷ drop 1 fresh.now) }
-    ensures alone { IfOk result (λ r. ¬ Elsewhere table.now r.0.number r.1) }
-    ensures err { IfErr result (λ refusal. refusal ≢ Refusal.Memory → EntryNotMade B table.now asked.now fresh.now refusal) }
-{
-    let spot = find_spot(alloc, table, asked)?;
-    if is_wrong_size::<B>(&spot) {
-        return Err(Refusal::ContainerType);
-    }
-    let guid = match next_guid(fresh) {
-        Some(guid) => guid,
-        None => return Err(Refusal::NoFreshGuid),
-    };
-    if is_elsewhere(table, spot.number, &guid) {
-        return Err(Refusal::SameGuid);
-    }
-    Ok((spot, guid))
-}
-
 // The layout with a new entry, which takes the first of the fresh GUIDs.
+#[tactic(auto, unfolding(crate::specs::Entries::entry_new))]
 pub(crate) fn new_entry<const B: usize>(
     alloc: Global,
     gpt: Gpt,
     asked: &Asked,
     fresh: &[Guid],
 ) -> Result<Layout, Refusal>
-    ensures ok { IfOk result (λ made. EntryMade B gpt.table asked.now fresh.now (whole_of gpt) made) }
-    ensures err { IfErr result (λ refusal. refusal ≢ Refusal.Memory → EntryNotMade B gpt.table asked.now fresh.now refusal) }
+    ensures ok { IfOk result (λ made. entry_new B gpt.table asked.now fresh.now (whole_of gpt) ≡ Ok made) }
+    ensures err { IfErr result (λ refusal. refusal ≢ Refusal.Memory
+        → entry_new B gpt.table asked.now fresh.now (whole_of gpt) ≡ Err refusal) }
 {
-    let chosen = choose::<B>(alloc, &gpt.table, asked, fresh)?;
-    Ok(put_new::<B>(alloc, gpt, &chosen.0, &chosen.1)?)
+    let spot = find_spot::<B>(alloc, &gpt.table, asked)?;
+    let guid = next_guid(fresh).ok_or(Refusal::NoFreshGuid)?;
+    if is_elsewhere(&gpt.table, spot.number, &guid) {
+        return Err(Refusal::SameGuid);
+    }
+    Ok(put_new::<B>(alloc, gpt, &spot, &guid)?)
 }

@@ -3,16 +3,29 @@
 //! They are read off the rows of `pt_members` with sectors of 512 bytes. The size of sectors decides only which partitions are
 //! slices, and that doesn't matter here.
 
-ghost use Rattle.std.specs.Prelude.{◌≡◌, ◌<◌, ◌++◌, ◌^◌, IfOk, OnOk, length, option_to_list, slice_index_or, None};
-ghost use Rattle.pt_members.specs.Members.{number_at, slots, rows};
+ghost use Rattle.std.specs.Prelude.{◌≡◌, ◌<◌, ◌++◌, ◌^◌, IfOk, OnOk, length, option_to_list};
+ghost use Rattle.pt_members.specs.Members.{slots};
 ghost use Rattle.pt_members.specs.Tables.{HasFour};
-ghost use Rattle.pt_edit.specs.Entries.{kept_of, kept_at, partitions};
+ghost use Rattle.pt_edit.specs.Entries.{kept_of, partitions};
 ghost use Rattle.pt_edit.specs.Converted.{guids_taken};
 
-use crate::partition::Partition;
-use pt_mbr::{Ebr, FIRST_LOGICAL, Record};
-use pt_members::{Body, Kind, Layout, Row, Source, next_number, numbered_row, slot_count};
+use pt_mbr::{Ebr, Record};
+use pt_members::{Body, Kind, Layout, Row, Source};
 use std::alloc::{AllocError, Global};
+
+/// A partition of an MBR, primary or logical, but not the extended one.
+///
+/// Its sectors are the disk's own, and wide, since those of a record may lie past 2^64.
+#[derive(Clone, Copy, Debug, PartialEq, Eq)]
+pub struct Partition {
+    /// From 1 to 4 the place of its record, from 5 on its place among the logical partitions.
+    pub number: u64,
+    /// Its type in the record (OSType).
+    pub kind: u8,
+    pub first: u128,
+    /// Its last sector; the one before the first where the record has no sector.
+    pub last: u128,
+}
 
 // The partition that a row is: none where it is the extended one, or the entry of a GPT or of a label.
 fn kept(row: &Row) -> Option<Partition>
@@ -33,16 +46,6 @@ fn kept(row: &Row) -> Option<Partition>
         }
         Source::Entry(_) | Source::Part(_) => None,
     }
-}
-
-// The partition in a place, where the number of its logical partition is known.
-fn partition_at(body: &Body, k: usize, number: u64) -> Option<Partition>
-    requires within { k < length (slots 512 body.now) }
-    requires number { number ≡ number_at body.now k }
-    ensures { option_to_list result ≡ kept_at (slice_index_or (rows 512 body.now) k None) }
-{
-    let row = numbered_row::<512>(body, k, number)?;
-    kept(&row)
 }
 
 fn push(partitions: &mut Vec<Partition>, partition: Option<Partition>) -> Result<(), AllocError>
@@ -77,35 +80,30 @@ fn bounds(body: &Body)
 }
 
 // All of them, but the extended partition.
-#[tactic(auto, using(pt_members::proofs::ByPlace::from_five))]
 pub(crate) fn partitions_of(alloc: Global, body: &Body) -> Result<Vec<Partition>, AllocError>
     ensures ok { IfOk result (λ v. v.items ≡ partitions body.now) }
     ensures four { HasFour body.now }
 {
     bounds(body);
     let mut partitions = Vec::new(alloc);
-    let mut number = FIRST_LOGICAL;
-    for k in 0..slot_count::<512>(body) {
-        push(&mut partitions, partition_at(body, k, number))?;
-        number = next_number::<512>(body, k, number);
+    for row in body.rows::<512>() {
+        push(&mut partitions, kept(&row))?;
     }
     Ok(partitions)
 }
 
 /// How many fresh GUIDs the layout takes as it becomes a GPT: one for the disk, and one for each partition, but not for the extended
 /// one.
-#[tactic(auto, using(crate::proofs::Listing::kept_end, pt_members::proofs::ByPlace::from_five))]
+#[tactic(auto, using(crate::proofs::Counts::partitions_few))]
 pub fn guids_for(layout: &Layout) -> usize
     ensures { result ≡ guids_taken layout.now }
 {
     bounds(&layout.body);
     let mut count = 1;
-    let mut number = FIRST_LOGICAL;
-    for k in 0..slot_count::<512>(&layout.body) {
-        if partition_at(&layout.body, k, number).is_some() {
+    for row in layout.body.rows::<512>() {
+        if kept(&row).is_some() {
             count += 1;
         }
-        number = next_number::<512>(&layout.body, k, number);
     }
     count
 }

@@ -1,26 +1,55 @@
-//! The words `t`, `d` and `n`, by what their path names.
+//! The words `t`, `d` and `n`, by what their path names and by the kind of the table.
 
-ghost use Rattle.std.specs.Prelude.{◌≢◌, IfOk, IfErr};
-ghost use Rattle.pt_edit.specs.Edited.{Typed, NotTyped, Deleted, NotDeleted, Made, NotMade};
+ghost use Rattle.std.specs.Prelude.{◌≡◌, ◌≢◌, IfOk, IfErr, Ok, Err};
+ghost use Rattle.pt_edit.specs.inner.Entries.{layout_of};
+ghost use Rattle.pt_edit.specs.Edited.{typed, deleted, made};
 
-use crate::kinds::{Parts, parts_of};
+use crate::entries::{delete_entry, set_entry_kind};
+use crate::gpt::Gpt;
 use crate::labels::{delete_part, new_part, set_part_kind};
 use crate::new_entry::new_entry;
-use crate::spots::{delete_entry, set_entry_kind};
+use crate::records::MbrParts;
 use pt_guid::Guid;
-use pt_members::Layout;
+use pt_members::{Body, Layout};
 use pt_path::Path;
 use pt_words::{Asked, Code, Refusal};
 use std::alloc::Global;
 
+/// The parts of a layout by its kind.
+#[derive(Drop)]
+pub enum Parts {
+    OfGpt(Gpt),
+    OfMbr(MbrParts),
+}
+
+// The parts of a layout.
+fn parts_of(layout: Layout) -> Parts
+    ensures { layout ≡ layout_of result }
+{
+    let (sectors, body, labels) = layout.into_parts();
+    match body {
+        Body::Gpt(table) => Parts::OfGpt(Gpt {
+            sectors,
+            table,
+            labels,
+        }),
+        Body::Mbr { records, chain } => Parts::OfMbr(MbrParts {
+            sectors,
+            records,
+            chain,
+            labels,
+        }),
+    }
+}
+
 // The layout with another type of what a path names.
+#[tactic(auto, unfolding(crate::specs::Edited::typed))]
 pub(crate) fn set_kind<const B: usize>(
     layout: Layout,
     path: &Path,
     code: &Code,
 ) -> Result<Layout, Refusal>
-    ensures ok { IfOk result (λ made. Typed B path.now.number path.now.letter code.now layout made) }
-    ensures err { IfErr result (λ refusal. NotTyped B path.now.number path.now.letter code.now layout refusal) }
+    ensures { result ≡ typed B path.now.number path.now.letter code.now layout }
 {
     if let Some(letter) = path.letter {
         return set_part_kind::<B>(layout, path.number, letter, code);
@@ -32,9 +61,9 @@ pub(crate) fn set_kind<const B: usize>(
 }
 
 // The layout without what a path names.
+#[tactic(auto, unfolding(crate::specs::Edited::deleted))]
 pub(crate) fn delete<const B: usize>(layout: Layout, path: &Path) -> Result<Layout, Refusal>
-    ensures ok { IfOk result (λ made. Deleted B path.now.number path.now.letter layout made) }
-    ensures err { IfErr result (λ refusal. NotDeleted B path.now.number path.now.letter layout refusal) }
+    ensures { result ≡ deleted B path.now.number path.now.letter layout }
 {
     if let Some(letter) = path.letter {
         return delete_part::<B>(layout, path.number, letter);
@@ -46,6 +75,7 @@ pub(crate) fn delete<const B: usize>(layout: Layout, path: &Path) -> Result<Layo
 }
 
 // The layout with a new partition.
+#[tactic(auto, unfolding(crate::specs::Edited::made))]
 pub(crate) fn new<const B: usize>(
     alloc: Global,
     layout: Layout,
@@ -53,8 +83,8 @@ pub(crate) fn new<const B: usize>(
     asked: &Asked,
     fresh: &[Guid],
 ) -> Result<Layout, Refusal>
-    ensures ok { IfOk result (λ made. Made B letter asked.now fresh.now layout made) }
-    ensures err { IfErr result (λ refusal. refusal ≢ Refusal.Memory → NotMade B letter asked.now fresh.now layout refusal) }
+    ensures ok { IfOk result (λ p. made B letter asked.now fresh.now layout ≡ Ok p) }
+    ensures err { IfErr result (λ refusal. refusal ≢ Refusal.Memory → made B letter asked.now fresh.now layout ≡ Err refusal) }
 {
     match letter {
         Some(letter) => new_part::<B>(alloc, layout, letter, asked),

@@ -1,10 +1,9 @@
 //! The word `n` with a letter: a new partition of a slice's label.
 
-ghost use Rattle.std.specs.Prelude.{◌≡◌, ◌≢◌, ◌<◌, ◌≤◌, ◌^◌, ℕ, IfOk, IfErr, IfSome, IfNone};
-ghost use Rattle.pt_bsd.specs.Labels.{sector_by};
+ghost use Rattle.std.specs.Prelude.{◌≡◌, ◌≢◌, ◌<◌, ◌≤◌, ◌^◌, IfOk, IfErr, Ok, Err};
 ghost use Rattle.pt_words.specs.declared.error.Refusal.TheVariants.{Memory};
-ghost use Rattle.pt_edit.specs.Space.{area_of, Placed, NotPlaced};
-ghost use Rattle.pt_edit.specs.SliceLabels.{HasUnused, NoUnused, new_type, area_in, len_of, HasOffset, new_entry, PartNew, PartNotNew};
+ghost use Rattle.pt_edit.specs.Space.{area_of, placed};
+ghost use Rattle.pt_edit.specs.SliceLabels.{unused_at, new_type, area_in, len_of, in_32_bits, offset_by, new_entry, part_new};
 
 use crate::labels::parts::{PartEntry, entry_of, part_type_of, put_entry};
 use crate::space::{Lead, Run, Space, place, taken_by_parts};
@@ -20,10 +19,10 @@ const FAST_FILE_SYSTEM: u8 = 7;
 const RESERVED: u128 = 16;
 
 // The entry of a letter of a slice's label, where it is counted, isn't c, and has no sectors.
+#[tactic(auto, unfolding(crate::specs::SliceLabels::unused_at))]
 fn unused_of<const B: usize>(layout: &Layout, number: u64, letter: u8) -> Result<PartEntry, Refusal>
+    ensures value { result ≡ unused_at B layout.now number letter }
     ensures within { IfOk result (λ _. letter < 8) }
-    ensures ok { IfOk result (λ s. HasUnused B layout.now number letter s.slice s.label s.entry) }
-    ensures err { IfErr result (NoUnused B layout.now number letter) }
     ensures small { IfOk result (λ s. s.slice.first < 2 ^ 66) }
 {
     let spot = entry_of::<B>(layout, number, letter)?;
@@ -57,11 +56,13 @@ pub(crate) fn space_in(alloc: Global, label: Label, slice: &Member) -> Result<Sp
 }
 
 // Where a partition of a slice is placed.
+#[tactic(auto, using(crate::proofs::Placing::placed_some))]
 fn place_in(alloc: Global, label: Label, slice: &Member, asked: &Asked) -> Result<Run, Refusal>
     requires { slice.now.first < 2 ^ 66 }
-    ensures ok { IfOk result (λ run. Placed (area_in label slice.now) asked.now.alignment asked.now.start asked.now.end run) }
+    ensures ok { IfOk result (λ run. placed (area_in label slice.now) asked.now.alignment asked.now.start asked.now.end ≡ Ok run) }
+    ensures some { IfOk result (λ run. run.first ≤ run.last) }
     ensures err { IfErr result (λ refusal. refusal ≢ Memory
-        → NotPlaced (area_in label slice.now) asked.now.alignment asked.now.start asked.now.end refusal) }
+        → placed (area_in label slice.now) asked.now.alignment asked.now.start asked.now.end ≡ Err refusal) }
 {
     let space = space_in(alloc, label, slice)?;
     place(space, asked.alignment, asked.start, asked.end)
@@ -69,8 +70,7 @@ fn place_in(alloc: Global, label: Label, slice: &Member, asked: &Asked) -> Resul
 
 // The offset that a form gives to a sector, in a slice with this first sector.
 fn offset_of(form: Form, slice_first: u128, sector: u128) -> Option<u32>
-    ensures some { IfSome result (λ offset. sector_by form slice_first offset ≡ sector) }
-    ensures none { IfNone result ((offset : ℕ) → offset < 2 ^ 32 → ¬ (sector_by form slice_first offset ≡ sector)) }
+    ensures { result ≡ offset_by form slice_first sector }
 {
     let offset = match form {
         Form::Relative => sector.checked_sub(slice_first)?,
@@ -82,28 +82,23 @@ fn offset_of(form: Form, slice_first: u128, sector: u128) -> Option<u32>
 // How many sectors there are.
 fn len_in(run: Run) -> Option<u32>
     requires { run.first ≤ run.last }
-    ensures some { IfSome result (λ len. len ≡ len_of run) }
-    ensures none { IfNone result (2 ^ 32 ≤ len_of run) }
+    ensures { result ≡ in_32_bits (len_of run) }
 {
     u32::try_from(run.last - run.first).ok()?.checked_add(1)
 }
 
-// The entry of a new partition in these sectors.
-fn entry_at(label: &Label, slice: &Member, run: Run, kind: u8) -> Option<LabelEntry>
-    requires { run.first ≤ run.last }
-    ensures some { IfSome result (λ e. HasOffset label.now slice.now run e.offset × (e ≡ new_entry (len_of run) e.offset kind)) }
-    ensures none { IfNone result ((offset : ℕ) → ¬ HasOffset label.now slice.now run offset) }
+// The entry of a new partition.
+fn entry_with(size: u32, offset: u32, kind: u8) -> LabelEntry
+    ensures { result ≡ new_entry size offset kind }
 {
-    let offset = offset_of(label.form(), slice.first, run.first)?;
-    let size = len_in(run)?;
-    Some(LabelEntry {
+    LabelEntry {
         size,
         offset,
         fragment: 0,
         fstype: kind,
         frag: 0,
         cpg: 0,
-    })
+    }
 }
 
 /// `n` with a letter: the layout with a new partition, of a letter from 0 for a, in the label of the slice of the number
@@ -118,27 +113,23 @@ fn entry_at(label: &Label, slice: &Member, run: Run, kind: u8) -> Option<LabelEn
 /// the label doesn't count, `NumberTaken` for one that has sectors, `UnknownCode` for a code of four digits or 00, what
 /// `place` of pt_edit::space refuses, and `LabelOffset` where the offset or the number of sectors is 2^32 or more. `Memory` is
 /// lack of memory.
+#[tactic(auto, unfolding(crate::specs::SliceLabels::part_new))]
 pub fn new_part<const B: usize>(
     alloc: Global,
     layout: Layout,
     letter: u8,
     asked: &Asked,
 ) -> Result<Layout, Refusal>
-    ensures ok { IfOk result (λ made.
-        PartNew B asked.now.number letter asked.now.alignment asked.now.start asked.now.end asked.now.code layout made) }
-    ensures err { IfErr result (λ refusal. refusal ≢ Memory
-        → PartNotNew B asked.now.number letter asked.now.alignment asked.now.start asked.now.end asked.now.code layout refusal) }
+    ensures ok { IfOk result (λ made. part_new B letter asked.now layout ≡ Ok made) }
+    ensures err { IfErr result (λ refusal. refusal ≢ Memory → part_new B letter asked.now layout ≡ Err refusal) }
 {
     let number = asked.number;
     let spot = unused_of::<B>(&layout, number, letter)?;
-    let kind = match new_type_of(&asked.code) {
-        Some(kind) => kind,
-        None => return Err(Refusal::UnknownCode),
-    };
+    let kind = new_type_of(&asked.code).ok_or(Refusal::UnknownCode)?;
     let run = place_in(alloc, spot.label, &spot.slice, asked)?;
-    let entry = match entry_at(&spot.label, &spot.slice, run, kind) {
-        Some(entry) => entry,
-        None => return Err(Refusal::LabelOffset),
-    };
+    let offset = offset_of(spot.label.form(), spot.slice.first, run.first);
+    let offset = offset.ok_or(Refusal::LabelOffset)?;
+    let size = len_in(run).ok_or(Refusal::LabelOffset)?;
+    let entry = entry_with(size, offset, kind);
     Ok(put_entry(layout, number, letter, &spot.label, entry))
 }

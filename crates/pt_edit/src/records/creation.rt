@@ -1,26 +1,100 @@
-//! The word `n`: a new partition.
+//! The word `n`: a new partition; of a record the number, and where it is placed.
 
-ghost use Rattle.std.specs.Prelude.{◌≡◌, ◌≢◌, ◌↔◌, ◌≤◌, ◌<◌, ◌^◌, IsTrue, IfOk, IfErr};
-ghost use Rattle.pt_edit.specs.Records.{whole_of};
-ghost use Rattle.pt_edit.specs.MbrEdits.{one_more, RecordNew, RecordNotNew, extended_record, IsSecond, Chosen, NotChosen, IsShortSlice};
-ghost use Rattle.pt_edit.specs.MbrEdits.{record_at, new_chain, new_labels};
+ghost use Rattle.std.specs.Prelude.{◌≡◌, ◌≢◌, ◌≤◌, ◌<◌, ◌^◌, true, IfOk, IfSome, IfErr, Ok, Err};
+ghost use Rattle.pt_edit.specs.Records.{is_primary, is_unused, lowest_unused, number_for, whole_of};
+ghost use Rattle.pt_edit.specs.Space.{area_of, placed};
+ghost use Rattle.pt_edit.specs.MbrEdits.{disk_area, extended_record, is_second, is_short_slice, record_at, new_chain, new_labels};
+ghost use Rattle.pt_edit.specs.MbrEdits.{primary_new, record_new};
 
 use crate::labels::add_label;
 use crate::records::chain_create::new_logical;
-use crate::records::numbers::number_for;
-use crate::records::parts::{MbrParts, layout_of, put_record};
-use crate::records::space::place_record;
+use crate::records::parts::{MbrParts, is_primary, layout_of, put_record};
 use crate::records::types::{is_slice_kind, new_type_of};
-use crate::space::Run;
+use crate::space::{Lead, Run, Space, place, taken_by_records};
 use pt_bsd::empty_label;
 use pt_mbr::{Ebr, FARTHEST, Record, is_extended_kind};
 use pt_members::{Ebrs, Labels, Layout};
 use pt_sector::Lba;
-use pt_words::{Asked, Code, Refusal};
+use pt_words::{Asked, Refusal};
 use std::alloc::{AllocError, Global};
 
 /// The number that asks for one more logical partition.
 const ONE_MORE: u64 = 5;
+
+/// The last sector that a record's start can tell.
+const LAST: u128 = 0xFFFF_FFFF;
+
+// Whether a number is of no used record.
+fn is_unused(records: &[Option<Record>; 4], number: u64) -> bool
+    ensures { result ≡ is_unused records.now number }
+{
+    is_primary(number) && records[number as usize - 1].is_none()
+}
+
+// The lowest such number.
+fn lowest_unused(records: &[Option<Record>; 4]) -> Option<u64>
+    ensures value { result ≡ lowest_unused records.now }
+    ensures primary { IfSome result (λ number. is_primary number ≡ true) }
+{
+    for number in 1..5 {
+        if is_unused(records, number) {
+            return Some(number);
+        }
+    }
+    None
+}
+
+// The number of a new record for the one that is asked for.
+fn number_for(records: &[Option<Record>; 4], asked: u64) -> Result<u64, Refusal>
+    ensures value { result ≡ number_for records.now asked }
+    ensures primary { IfOk result (λ number. is_primary number ≡ true) }
+{
+    if asked == 0 {
+        return lowest_unused(records).ok_or(Refusal::NoSpace);
+    }
+    if !is_primary(asked) {
+        return Err(Refusal::NoSuchPartition);
+    }
+    if is_unused(records, asked) {
+        Ok(asked)
+    } else {
+        Err(Refusal::NumberTaken)
+    }
+}
+
+// Where one more partition may be placed, on a disk of so many sectors.
+pub(crate) fn record_space(
+    alloc: Global,
+    sectors: u64,
+    records: &[Option<Record>; 4],
+) -> Result<Space, AllocError>
+    ensures { IfOk result (λ space. area_of space ≡ disk_area sectors records.now) }
+{
+    let taken = taken_by_records(alloc, records)?;
+    Ok(Space {
+        low: 1,
+        high: u128::from(sectors.saturating_sub(1)).min(LAST),
+        taken,
+        lead: Lead::None,
+    })
+}
+
+// The sectors of a new record's partition. Their numbers have 32 bits.
+#[tactic(auto, using(crate::proofs::Within::placed_within))]
+fn place_record(
+    alloc: Global,
+    sectors: u64,
+    records: &[Option<Record>; 4],
+    asked: &Asked,
+) -> Result<Run, Refusal>
+    ensures ok { IfOk result (λ run. placed (disk_area sectors records.now) asked.now.alignment asked.now.start asked.now.end ≡ Ok run) }
+    ensures within { IfOk result (λ run. 1 ≤ run.first × run.first ≤ run.last × run.last < 2 ^ 32) }
+    ensures err { IfErr result (λ refusal. refusal ≢ Refusal.Memory
+        → placed (disk_area sectors records.now) asked.now.alignment asked.now.start asked.now.end ≡ Err refusal) }
+{
+    let space = record_space(alloc, sectors, records)?;
+    place(space, asked.alignment, asked.start, asked.end)
+}
 
 // The extended record, the first where there are more.
 #[tactic(auto, using(crate::proofs::Told::searched))]
@@ -40,29 +114,9 @@ fn extended_in(records: &[Option<Record>; 4]) -> Option<Record>
 // Whether a record of a type would be a second extended one.
 #[tactic(auto, using(crate::proofs::TypesLemmas::told_extended))]
 fn is_second(records: &[Option<Record>; 4], kind: u8) -> bool
-    ensures { IsTrue result ↔ IsSecond records.now kind }
+    ensures { result ≡ is_second records.now kind }
 {
     is_extended_kind(kind) && extended_in(records).is_some()
-}
-
-// The number and the type of a new record.
-fn choose(
-    records: &[Option<Record>; 4],
-    asked: u64,
-    code: &Option<Code>,
-) -> Result<(u64, u8), Refusal>
-    ensures ok { IfOk result (λ c. Chosen records.now asked code.now c.0 c.1) }
-    ensures err { IfErr result (NotChosen records.now asked code.now) }
-{
-    let number = number_for(records, asked)?;
-    let kind = match new_type_of(code) {
-        Some(kind) => kind,
-        None => return Err(Refusal::UnknownCode),
-    };
-    if is_second(records, kind) {
-        return Err(Refusal::ContainerType);
-    }
-    Ok((number, kind))
 }
 
 // A new record.
@@ -121,22 +175,21 @@ fn labels_with<const B: usize>(
 // Whether a record would be a slice without a sector for its label.
 fn is_short_slice<const B: usize>(kind: u8, run: Run) -> bool
     requires { run.first ≤ run.last }
-    ensures { IsTrue result ↔ IsShortSlice B kind run }
+    ensures { result ≡ is_short_slice B kind run }
 {
     is_slice_kind::<B>(kind) && run.last - run.first < 1
 }
 
 // `n` of a record.
+#[tactic(auto, unfolding(crate::specs::MbrEdits::primary_new))]
 fn add_record<const B: usize>(
     alloc: Global,
     parts: MbrParts,
     asked: &Asked,
 ) -> Result<Layout, Refusal>
-    requires { asked.now.number ≢ one_more }
-    ensures ok { IfOk result (λ made.
-        RecordNew B asked.now.number asked.now.alignment asked.now.start asked.now.end asked.now.code (whole_of parts) made) }
+    ensures ok { IfOk result (λ made. primary_new B asked.now parts.records parts.chain (whole_of parts) ≡ Ok made) }
     ensures err { IfErr result (λ refusal. refusal ≢ Refusal.Memory
-        → RecordNotNew B asked.now.number asked.now.alignment asked.now.start asked.now.end asked.now.code (whole_of parts) refusal) }
+        → primary_new B asked.now parts.records parts.chain (whole_of parts) ≡ Err refusal) }
 {
     let MbrParts {
         sectors,
@@ -144,7 +197,11 @@ fn add_record<const B: usize>(
         chain,
         labels,
     } = parts;
-    let (number, kind) = choose(&records, asked.number, &asked.code)?;
+    let number = number_for(&records, asked.number)?;
+    let kind = new_type_of(&asked.code).ok_or(Refusal::UnknownCode)?;
+    if is_second(&records, kind) {
+        return Err(Refusal::ContainerType);
+    }
     let run = place_record(alloc, sectors, &records, asked)?;
     if is_short_slice::<B>(kind, run) {
         return Err(Refusal::ContainerType);
@@ -152,28 +209,6 @@ fn add_record<const B: usize>(
     let chain = chain_with(alloc, chain, kind, run)?;
     let labels = labels_with::<B>(alloc, labels, number, kind, run)?;
     let records = put_record(records, number, Some(record_in(kind, run)));
-    Ok(layout_of(sectors, records, chain, labels))
-}
-
-// `n` of a logical partition.
-fn add_logical<const B: usize>(
-    alloc: Global,
-    parts: MbrParts,
-    asked: &Asked,
-) -> Result<Layout, Refusal>
-    ensures ok { IfOk result (λ made.
-        RecordNew B one_more asked.now.alignment asked.now.start asked.now.end asked.now.code (whole_of parts) made) }
-    ensures err { IfErr result (λ refusal. refusal ≢ Refusal.Memory
-        → RecordNotNew B one_more asked.now.alignment asked.now.start asked.now.end asked.now.code (whole_of parts) refusal) }
-{
-    let MbrParts {
-        sectors,
-        records,
-        chain,
-        labels,
-    } = parts;
-    let extended = extended_in(&records);
-    let (chain, labels) = new_logical::<B>(alloc, extended, chain, labels, asked)?;
     Ok(layout_of(sectors, records, chain, labels))
 }
 
@@ -193,15 +228,22 @@ fn add_logical<const B: usize>(
 /// - `NoSpace`: a logical partition would need a 129th extended boot record.
 ///
 /// `Memory` is reported for lack of memory alone.
+#[tactic(auto, unfolding(crate::specs::MbrEdits::record_new))]
 pub fn new<const B: usize>(alloc: Global, parts: MbrParts, asked: &Asked) -> Result<Layout, Refusal>
-    ensures ok { IfOk result (λ made.
-        RecordNew B asked.now.number asked.now.alignment asked.now.start asked.now.end asked.now.code (whole_of parts) made) }
+    ensures ok { IfOk result (λ made. record_new B asked.now parts.records parts.chain (whole_of parts) ≡ Ok made) }
     ensures err { IfErr result (λ refusal. refusal ≢ Refusal.Memory
-        → RecordNotNew B asked.now.number asked.now.alignment asked.now.start asked.now.end asked.now.code (whole_of parts) refusal) }
+        → record_new B asked.now parts.records parts.chain (whole_of parts) ≡ Err refusal) }
 {
-    if asked.number == ONE_MORE {
-        add_logical::<B>(alloc, parts, asked)
-    } else {
-        add_record::<B>(alloc, parts, asked)
+    if asked.number != ONE_MORE {
+        return add_record::<B>(alloc, parts, asked);
     }
+    let MbrParts {
+        sectors,
+        records,
+        chain,
+        labels,
+    } = parts;
+    let extended = extended_in(&records);
+    let (chain, labels) = new_logical::<B>(alloc, extended, chain, labels, asked)?;
+    Ok(layout_of(sectors, records, chain, labels))
 }

@@ -1,8 +1,7 @@
 //! The layout of an MBR in its parts.
 
-ghost use Rattle.std.specs.Prelude.{◌≡◌, ◌↔◌, IsTrue, IfSome, IfNone};
-ghost use Rattle.pt_mbr.specs.declared.record.Record.{Record};
-ghost use Rattle.pt_edit.specs.Records.{layout_with, whole_of, IsPrimary, HasRecord, with_record};
+ghost use Rattle.std.specs.Prelude.{◌≡◌, true, IfSome};
+ghost use Rattle.pt_edit.specs.Records.{layout_with, whole_of, is_primary, used_record, with_record};
 
 use pt_mbr::Record;
 use pt_members::{Body, Ebrs, Labels, Layout};
@@ -53,15 +52,15 @@ pub(crate) fn layout_of(
 
 // Whether a number is a record's.
 pub(crate) fn is_primary(number: u64) -> bool
-    ensures { IsTrue result ↔ IsPrimary number }
+    ensures { result ≡ is_primary number }
 {
     1 <= number && number <= 4
 }
 
 // The used record of a number.
 pub(crate) fn used_record(records: &[Option<Record>; 4], number: u64) -> Option<Record>
-    ensures some { IfSome result (λ r. HasRecord records.now number r) }
-    ensures none { IfNone result ((r : Record) → ¬ HasRecord records.now number r) }
+    ensures value { result ≡ used_record records.now number }
+    ensures primary { IfSome result (λ _. is_primary number ≡ true) }
 {
     if !is_primary(number) {
         return None;
@@ -75,7 +74,7 @@ pub(crate) fn put_record(
     number: u64,
     new: Option<Record>,
 ) -> [Option<Record>; 4]
-    requires { IsPrimary number }
+    requires { is_primary number ≡ true }
     ensures { result ≡ with_record records number new }
 {
     records[number as usize - 1] = new;

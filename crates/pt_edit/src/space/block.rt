@@ -1,15 +1,16 @@
 //! Blocks: runs of free sectors with none before or after them.
 
-ghost use Rattle.std.specs.Prelude.{◌≡◌, ◌<◌, ◌≤◌, ◌+◌, ◌↔◌, IsTrue, IfOk, IfSome, OnOk};
+ghost use Rattle.std.specs.Prelude.{◌≡◌, ◌<◌, ◌≤◌, ◌+◌, IfOk, IfSome, OnOk};
 ghost use Rattle.std.specs.List.Sorted.{IsNonDecreasingBy};
-ghost use Rattle.pt_edit.specs.Space.{area_of, empties_of, AreBlocks, IsInRuns, IsFree, lead_size, rounded_up};
-ghost use Rattle.pt_edit.specs.inner.Space.{Fits128, part_of, longer_of, best_past, Best, EndsBlock, with_gap};
+ghost use Rattle.pt_edit.specs.Space.{area_of, empties_of, AreBlocks, IsFree, is_in, lead_size, rounded_up, part_of, longer_of, longest};
+ghost use Rattle.pt_edit.specs.Space.{blocks_of};
+ghost use Rattle.pt_edit.specs.inner.Space.{Fits128, best_past, EndsBlock, with_gap};
 
-use crate::space::space::{Lead, Run, Space};
+use crate::space::{Lead, Run, Space};
 use std::alloc::{AllocError, Global};
 
 pub(crate) fn is_in(runs: &[Run], k: u128) -> bool
-    ensures { IsTrue result ↔ IsInRuns runs.now k }
+    ensures { result ≡ is_in runs.now k }
 {
     runs.iter().any(|run| run.first <= k && k <= run.last)
 }
@@ -87,7 +88,7 @@ fn past_gap(space: &Space, alignment: u64, best: Option<Run>, first: u128, run: 
 // Of taken runs by ascending first sector, the part of the largest block.
 fn sweep(space: &Space, alignment: u64) -> Option<Run>
     requires { IsNonDecreasingBy (λ r. r.first) space.now.taken.items }
-    ensures { Best (area_of space.now) alignment result }
+    ensures { result ≡ longest (area_of space.now) alignment (blocks_of (area_of space.now)) }
 {
     if space.low > space.high {
         return None;
@@ -109,7 +110,7 @@ fn sweep(space: &Space, alignment: u64) -> Option<Run>
 
 // The part of the largest block. It takes no memory: the runs are sorted in place.
 pub(crate) fn largest(space: &mut Space, alignment: u64) -> Option<Run>
-    ensures { Best (area_of space.old) alignment result }
+    ensures { result ≡ longest (area_of space.old) alignment (blocks_of (area_of space.old)) }
 {
     space.taken.sort_unstable_by_key(|run| run.first);
     sweep(space, alignment)

@@ -1,39 +1,27 @@
 //! What holds of places, wherever they are looked for.
 
-ghost use Rattle.std.specs.Prelude.{◌≡◌, ◌≢◌, ◌≤◌, ◌*◌, ℕ, List, ◌⊎◌};
+ghost use Rattle.std.specs.Prelude.{◌≡◌, ◌≢◌, ◌≤◌, ℕ, List};
 ghost use Rattle.pt_edit.specs.declared.free.FreeBlock.{FreeBlock};
-ghost use Rattle.pt_edit.specs.declared.space.space.Run.{Run};
+ghost use Rattle.pt_edit.specs.declared.space.Run.{Run};
 ghost use Rattle.pt_edit.specs.Free.{AreFree, Place};
 ghost use Rattle.pt_words.specs.declared.word.End.{End};
 ghost use Rattle.pt_words.specs.declared.error.Refusal.{Refusal};
-ghost use Rattle.pt_edit.specs.Space.{AreBlocks, SameSectors, with_taken, Area, IsBlock, IsFreeRun, rounded_up, IsRoundedUp};
+ghost use Rattle.pt_edit.specs.Space.{AreBlocks, blocks_of, SameSectors, with_taken, Area, IsBlock, IsFreeRun, rounded_up, IsRoundedUp};
 ghost use Rattle.pt_edit.specs.Space.{Placed, NotPlaced};
-
-/// One run at most is placed.
-pub fn placed_one()
-    ensures { (a : Area) (alignment start : ℕ) (end : End) (r q : Run) → Placed a alignment start end r
-        → Placed a alignment start end q → r ≡ q }
-{}
-
-/// It is refused for one reason at most.
-pub fn refused_one()
-    ensures { (a : Area) (alignment start : ℕ) (end : End) (r q : Refusal) → NotPlaced a alignment start end r
-        → NotPlaced a alignment start end q → r ≡ q }
-{}
-
-/// What is placed isn't refused.
-pub fn placed_is_not_refused()
-    ensures { (a : Area) (alignment start : ℕ) (end : End) (r : Run) (q : Refusal) → Placed a alignment start end r
-        → ¬ NotPlaced a alignment start end q }
-{}
 
 /// What is placed has sectors, all usable and none taken, and before them room for the record that leads it.
 pub fn placed_is_free()
     ensures { (a : Area) (alignment start : ℕ) (end : End) (r : Run) → Placed a alignment start end r → IsFreeRun a r }
 {}
 
+/// The runs that the free sectors make are the blocks, all of them and in ascending order.
+#[tactic(auto, using(crate::proofs::Grouping::blocks_are))]
+pub fn blocks_of_are()
+    ensures { (a : Area) → AreBlocks a (blocks_of a) }
+{}
+
 /// An area has one list of blocks.
-#[tactic(auto, using(crate::proofs::AllBlocks::blocks_are_one))]
+#[tactic(auto, using(crate::proofs::Blocks::blocks_are_one))]
 pub fn blocks_one()
     ensures { (a : Area) (xs ys : List Run) → AreBlocks a xs → AreBlocks a ys → xs ≡ ys }
 {}
@@ -45,7 +33,7 @@ pub fn free_one()
 {}
 
 /// What is placed lies in a block.
-#[tactic(auto, using(crate::proofs::AllBlocks::placed_within))]
+#[tactic(auto, using(crate::proofs::Placing::placed_within))]
 pub fn placed_in_block()
     ensures { (a : Area) (alignment start : ℕ) (end : End) (r : Run) → Placed a alignment start end r
         → (b : Run) × IsBlock a b × (b.first ≤ r.first) × (r.last ≤ b.last) }
@@ -66,10 +54,4 @@ pub fn placed_by_sectors()
 pub fn refused_by_sectors()
     ensures { (a : Area) (alignment start : ℕ) (end : End) (runs : List Run) (r : Refusal) → SameSectors a.taken runs
         → NotPlaced a alignment start end r → NotPlaced (with_taken a runs) alignment start end r }
-{}
-
-/// A partition has a place in each area, or there is a reason why it has none.
-pub fn place_answers()
-    ensures { (a : Area) (alignment start : ℕ) (end : End) → ((r : Run) × Placed a alignment start end r)
-        ⊎ ((e : Refusal) × NotPlaced a alignment start end e) }
 {}

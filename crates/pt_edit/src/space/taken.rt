@@ -4,11 +4,13 @@ ghost use Rattle.std.specs.Prelude.{◌≡◌, ◌<◌, ◌^◌, ◌++◌, IfOk,
 ghost use Rattle.pt_members.specs.Members.{records_as, entries_as, logicals_as, parts_in};
 ghost use Rattle.pt_edit.specs.Space.{run_of, span_of, taken_by, spanned_by};
 
-use crate::space::space::Run;
+use crate::space::Run;
 use pt_bsd::Label;
 use pt_gpt::Entry;
 use pt_mbr::{Ebr, FIRST_LOGICAL, Record};
-use pt_members::{Member, entry_slot, number_behind, numbered_logical, part_slot, record_slot};
+use pt_members::{
+    LETTERS, Member, entry_slot, number_behind, numbered_logical, part_slot, record_slot,
+};
 use std::alloc::{AllocError, Global};
 
 // Adds the sectors of what stands in a place, where they exist.
@@ -86,7 +88,7 @@ pub fn taken_by_parts(alloc: Global, label: &Label, slice: &Member) -> Result<Ve
     ensures { IfOk result (λ v. v.items ≡ taken_by (parts_in (Some label.now) slice.now)) }
 {
     let mut taken = Vec::new(alloc);
-    for k in 0..8usize {
+    for k in 0..LETTERS {
         push_run(&mut taken, part_slot(label, slice, k))?;
     }
     Ok(taken)

@@ -1,7 +1,16 @@
-use Rattle.std.proofs.lemmas.Result.{err_from_is_err_and}
+use Rattle.std.proofs.Common.{◌≤◌, ◌∙◌, List, sym, subst, arith}
+use Rattle.pt_gpt.specs.Copies.{edge}
+use Rattle.pt_edit.specs.inner.Entries.{Placeable}
+use Rattle.pt_edit.specs.declared.partitions.Partition.{Partition}
+use Rattle.pt_edit.proofs.Numbers.{placed, room_for}
 use Rattle.pt_edit.proofs.convert.to_gpt.Goals as goal
 
-pub returns-in_err-table-clause-err : goal.returns-in_err-table-clause-err
-returns-in_err-table-clause-err g c =
-    let p = err_from_is_err_and c.from_residual.result c.from_residual.ensures.1 in
-    rw (p.1, p.2) c.in_err-table.ensures.err
+pub table_for-requires-clause-placeable : goal.table_for-requires-clause-placeable
+table_for-requires-clause-placeable g c =
+    subst (λ (ps : List Partition). Placeable c.args.layout.sectors ps) (sym (c.deref-2.ensures.value ∙ c.in_ok-partitions.ensures.are))
+    (placed g.row.B c.args.layout c.in_ok-partitions.ensures.four c.in_ok-check.ensures.room)
+
+pub table_for-requires-clause-room : goal.table_for-requires-clause-room
+table_for-requires-clause-room g c =
+    let room = room_for g.row.B c.args.layout c.in_ok-check.ensures.room in
+    let e : edge g.row.B ≤ c.args.layout.sectors = omega arith in e

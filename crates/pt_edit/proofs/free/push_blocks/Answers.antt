@@ -1,7 +1,7 @@
 use Rattle.std.proofs.Common.{◌<◌, ◌^◌, ◌∙◌, ◌++◌, ℕ, List, ap, length, subst, sym}
 use Rattle.std.specs.Prelude.{map, slice_index_or}
 use Rattle.std.proofs.lemmas.Result.{on_ok_weaker}
-use Rattle.pt_edit.specs.declared.space.space.Run.{Run}
+use Rattle.pt_edit.specs.declared.space.Run.{Run}
 use Rattle.pt_edit.specs.Free.{block_of, place_of}
 use Rattle.pt_edit.specs.Space.{area_of}
 use Rattle.pt_edit.proofs.BlocksWithin.{all_below}

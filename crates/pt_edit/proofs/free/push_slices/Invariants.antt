@@ -1,12 +1,15 @@
-use Rattle.std.proofs.Common.{◌≡◌, take}
+use Rattle.std.proofs.Common.{List}
 use Rattle.std.specs.Prelude.{flat_map}
-use Rattle.pt_members.specs.Members.{number_at, slots}
-use Rattle.pt_edit.specs.Free.{slice_place}
+use Rattle.pt_edit.specs.declared.free.FreeBlock.{FreeBlock}
+use Rattle.pt_edit.specs.Free.{slice_place, slice_places}
 use Rattle.pt_edit.specs.inner.Free.{Adds}
 use Rattle.pt_edit.proofs.free.push_slices.Given as goal
 
-abbrev pub invariant-loop-k : goal.invariant-loop-k
-invariant-loop-k g l = record {
-  blocks : Adds (flat_map (slice_place l.layout.labels) (take l.k (slots g.row.B l.layout.body))) l.fn.list.items l.list.items;
-  logical : l.logical ≡ number_at l.layout.body l.k;
+-- what adds the places of the slices to come adds all
+abbrev pub invariant-loop-row : goal.invariant-loop-row
+invariant-loop-row g l = record {
+  can_next : (goal.iterator-loop-row g).can_next l.row-iterator;
+  is_finite : (goal.iterator-loop-row g).is_finite l.row-iterator;
+  left : (all : List FreeBlock) → Adds (flat_map (λ row. slice_place l.layout.labels row.member) l.row-iterator) l.list.items all
+      → Adds (slice_places g.row.B l.layout) l.fn.list.items all;
 }

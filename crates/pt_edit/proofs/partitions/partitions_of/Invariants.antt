@@ -1,11 +1,11 @@
-use Rattle.std.proofs.Common.{◌≡◌, take}
+use Rattle.std.proofs.Common.{◌≡◌, ◌++◌}
 use Rattle.std.specs.Prelude.{flat_map}
-use Rattle.pt_members.specs.Members.{number_at, rows}
-use Rattle.pt_edit.specs.Entries.{kept_at}
+use Rattle.pt_edit.specs.Entries.{kept_of, partitions}
 use Rattle.pt_edit.proofs.partitions.partitions_of.Given as goal
 
-abbrev pub invariant-loop-k : goal.invariant-loop-k
-invariant-loop-k l = record {
-  partitions : l.partitions.items ≡ flat_map kept_at (take l.k (rows 512 l.body));
-  number : l.number ≡ number_at l.body l.k;
+abbrev pub invariant-loop-row : goal.invariant-loop-row
+invariant-loop-row l = record {
+  can_next : goal.iterator-loop-row.can_next l.row-iterator;
+  is_finite : goal.iterator-loop-row.is_finite l.row-iterator;
+  left : l.partitions.items ++ flat_map kept_of l.row-iterator ≡ partitions l.body;
 }

@@ -1,11 +1,13 @@
-use Rattle.std.proofs.Common.{◌≡◌, ◌<◌, ℕ, get_or, Some, None}
-use Rattle.pt_members.specs.Members.{number_at, slots}
-use Rattle.pt_members.specs.declared.member.Member.{Member}
-use Rattle.pt_edit.specs.inner.Entries.{HasNear}
+use Rattle.std.proofs.Common.{◌≡◌, map}
+use Rattle.std.specs.List.{list_any}
+use Rattle.pt_members.specs.Rows.{member_of, members_of}
+use Rattle.pt_edit.specs.Entries.{is_outsider}
 use Rattle.pt_edit.proofs.room.has_outsider.Given as goal
 
-abbrev pub invariant-loop-k : goal.invariant-loop-k
-invariant-loop-k g l = record {
-  none : (j : ℕ) (m : Member) → j < l.k → get_or (slots g.row.B l.layout.body) j None ≡ Some m → ¬ HasNear g.row.B l.layout m;
-  number : l.number ≡ number_at l.layout.body l.k;
+abbrev pub invariant-loop-row : goal.invariant-loop-row
+invariant-loop-row g l = record {
+  can_next : (goal.iterator-loop-row g).can_next l.row-iterator;
+  is_finite : (goal.iterator-loop-row g).is_finite l.row-iterator;
+  left : list_any (is_outsider g.row.B l.layout.sectors) (map member_of l.row-iterator)
+      ≡ list_any (is_outsider g.row.B l.layout.sectors) (members_of g.row.B l.layout);
 }

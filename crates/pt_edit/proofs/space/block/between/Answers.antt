@@ -1,6 +1,6 @@
 use Rattle.std.proofs.Common.{◌≤◌, ◌+◌, ◌∙◌, List, Vec, ap, subst, sym, length}
 use Rattle.std.specs.declared.alloc.Global.{Global}
-use Rattle.pt_edit.specs.declared.space.space.Run.{Run}
+use Rattle.pt_edit.specs.declared.space.Run.{Run}
 use Rattle.pt_edit.specs.Space.{AreBlocks, area_of}
 use Rattle.pt_edit.proofs.AllBlocks.{all_listed, listed_at_end, listed_more, listed_none, listed_same}
 use Rattle.pt_edit.proofs.Gaps.{is_at, run_at}

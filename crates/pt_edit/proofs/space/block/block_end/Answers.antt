@@ -1,5 +1,5 @@
 use Rattle.std.proofs.Common.{◌≤◌, ◌+◌, ℕ, List, length, sym, subst, arith}
-use Rattle.pt_edit.specs.declared.space.space.Run.{Run}
+use Rattle.pt_edit.specs.declared.space.Run.{Run}
 use Rattle.pt_edit.specs.Space.{area_of}
 use Rattle.pt_edit.proofs.BlockEnds.{EndsAfter, ends_before, ends_elsewhere, ends_all}
 use Rattle.pt_edit.proofs.space.block.block_end.Goals as goal

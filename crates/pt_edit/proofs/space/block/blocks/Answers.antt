@@ -1,7 +1,7 @@
 use Rattle.std.proofs.Common.{rules}
 use Rattle.std.proofs.lemmas.List.Sorted.{IsNonDecreasingBy-from_sort_by_key}
 use Rattle.std.proofs.lemmas.Result.{IfOk-weaker}
-use Rattle.pt_edit.specs.declared.space.space.Run.{Run}
+use Rattle.pt_edit.specs.declared.space.Run.{Run}
 use Rattle.pt_edit.specs.Space.{area_of}
 use Rattle.pt_edit.proofs.AllBlocks.{blocks_back}
 use Rattle.pt_edit.proofs.space.block.blocks.Goals as goal

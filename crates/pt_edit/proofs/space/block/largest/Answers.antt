@@ -1,8 +1,8 @@
-use Rattle.std.proofs.Common.{rules}
+use Rattle.std.proofs.Common.{rules, ◌∙◌, ap}
 use Rattle.std.proofs.lemmas.List.Sorted.{IsNonDecreasingBy-from_sort_by_key}
-use Rattle.pt_edit.specs.declared.space.space.Run.{Run}
-use Rattle.pt_edit.specs.Space.{area_of}
-use Rattle.pt_edit.proofs.Sets.{best_back}
+use Rattle.pt_edit.specs.declared.space.Run.{Run}
+use Rattle.pt_edit.specs.Space.{area_of, longest}
+use Rattle.pt_edit.proofs.AllBlocks.{blocks_moved}
 use Rattle.pt_edit.proofs.space.block.largest.Goals as goal
 
 pub sweep-requires : goal.sweep-requires
@@ -12,5 +12,6 @@ sweep-requires c =
 
 pub returns : goal.returns
 returns c =
-    best_back (area_of c.args.space.now) c.sort_unstable_by_key.new.self.items c.args.alignment c.sweep.result
-    c.sort_unstable_by_key.ensures.permutation c.sweep.ensures
+    let a = area_of c.args.space.now in
+    c.sweep.ensures
+    ∙ ap (longest a c.args.alignment) (blocks_moved a c.sort_unstable_by_key.new.self.items c.sort_unstable_by_key.ensures.permutation)

@@ -1,5 +1,5 @@
 use Rattle.pt_edit.specs.Space.{area_of}
-use Rattle.pt_edit.proofs.Gaps.{Swept}
+use Rattle.pt_edit.proofs.AllBlocks.{Swept}
 use Rattle.pt_edit.proofs.space.block.sweep.Given as goal
 
 abbrev pub invariant-loop-run : goal.invariant-loop-run

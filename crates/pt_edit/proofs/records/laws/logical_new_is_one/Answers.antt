@@ -1,5 +1,0 @@
-use Rattle.pt_edit.proofs.ChainNewLaws.{logical_new_one_lem}
-use Rattle.pt_edit.proofs.records.laws.logical_new_is_one.Goals as goal
-
-pub returns : goal.returns
-returns c = logical_new_one_lem

@@ -1,5 +1,0 @@
-use Rattle.pt_edit.proofs.ChainLaws.{logical_not_deleted_one_lem}
-use Rattle.pt_edit.proofs.records.laws.logical_not_deleted_is_one.Goals as goal
-
-pub returns : goal.returns
-returns c = logical_not_deleted_one_lem

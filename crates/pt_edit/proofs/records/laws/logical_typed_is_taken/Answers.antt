@@ -1,5 +1,0 @@
-use Rattle.pt_edit.proofs.ChainLaws.{logical_typed_taken_lem}
-use Rattle.pt_edit.proofs.records.laws.logical_typed_is_taken.Goals as goal
-
-pub returns : goal.returns
-returns c = logical_typed_taken_lem

@@ -1,5 +1,0 @@
-use Rattle.pt_edit.proofs.SpaceTerms.{placed_is_not_refused_lem}
-use Rattle.pt_edit.proofs.space.laws.placed_is_not_refused.Goals as goal
-
-pub returns : goal.returns
-returns c = placed_is_not_refused_lem
