@@ -25,12 +25,12 @@ use Rattle.pt_members.specs.Tables.{HasFour}
 use Rattle.pt_members.specs.declared.member.Kind.{Kind}
 use Rattle.pt_members.specs.declared.member.Kind.TheVariants as kind
 use Rattle.pt_members.specs.declared.member.Member.{Member}
-use Rattle.pt_edit.specs.Entries.{member_of, is_kept, is_kept_kind, partitions, NoRoom, small}
+use Rattle.pt_edit.specs.Entries.{member_of, is_kept, is_kept_kind, partitions}
 use Rattle.pt_edit.proofs.Kept.{kept_lem}
-use Rattle.pt_edit.specs.Converted.{new_type, HasUnknown, IsItemAt, entry_of, IsGptOf, Converted, HasRecords}
-use Rattle.pt_edit.specs.inner.Entries.{Placeable}
-use Rattle.pt_edit.specs.declared.partition.Partition.{Partition}
-use Rattle.pt_edit.proofs.Numbers.{placed}
+use Rattle.pt_edit.specs.Converted.{new_type, entry_of}
+use Rattle.pt_edit.specs.inner.Entries.{IsItemAt, Placeable}
+use Rattle.pt_edit.specs.declared.partitions.Partition.{Partition}
+use Rattle.pt_edit.proofs.Numbers.{placed, room_for}
 use Rattle.pt_edit.proofs.EntryPlaces.{at_place}
 use Rattle.pt_cases.specs.Writes.{AreLabelsOf, Shaped}
 use Rattle.pt_cases.specs.Keeps.{Keeps}
@@ -38,6 +38,7 @@ use Rattle.pt_kept.proofs.Lists.{contains_cases, contains_later}
 use Rattle.pt_kept.proofs.Tables.{keeps_gpt}
 use Rattle.pt_kept.proofs.Mbr.{body_fits, old_labels, same_slice}
 use Rattle.pt_kept.proofs.GptWords.{code_typed}
+use Rattle.pt_edit.proofs.ConvertSteps.{Converted, HasRecords, HasUnknown, IsGptOf}
 
 -- the slice that a partition is
 abbrev slice_in : Partition → List Slice
@@ -316,12 +317,6 @@ table_stands b n guids ps t is enough known place = record {
       sym (ap (λ (i : ℕ). slice_index_or t.entries i None) same) ∙ is.others (1 + k) (omega arith) (omega (arith, lt, is.count)) free);
 }
 
-has_room : (b : ℕ) (o : Layout) → ¬ NoRoom b o → HasRoom b o.sectors
-has_room b o room = elim (cases_lt o.sectors (2 * array_len b + 4)) as (λ _. HasRoom b o.sectors) [
-  | inl less ↦ absurd (room (small (λ more. omega (arith, less, more))))
-  | inr more ↦ more
-]
-
 -- the slices of a table and of an MBR, with sectors of either size
 slices_by_size : (b : ℕ) (t : Table) (rs : List (Option Record)) (chain : List Ebr) → entry_slices 1 t.entries
     ≡ slices_of 512 (Mbr rs chain) → (d : Bool) → nat_eq b 512 ≡ d → slices_of b (Gpt t) ≡ slices_of b (Mbr rs chain)
@@ -341,21 +336,22 @@ keeps_converted b guids o p shaped c = subst (λ (q : Layout). Keeps b o.sectors
       let ps = partitions o.body in
       let ps_is : ps ≡ partitions (Mbr rs chain) = ap partitions is in
       let fits = body_fits b o rs chain shaped is in
-      let room = has_room b o c.may.room in
-      let place = placed b o (subst HasFour (sym is) fits.four) c.may.room in
-      let stands = table_stands b o.sectors guids ps t c.is_table c.may.enough c.may.known place in
+      let is_table = c.is_table (subst HasFour (sym is) fits.four) in
+      let room = room_for b o c.room in
+      let place = placed b o (subst HasFour (sym is) fits.four) c.room in
+      let stands = table_stands b o.sectors guids ps t is_table c.enough c.known place in
       let same : entry_slices 1 t.entries ≡ slices_of 512 (Mbr rs chain) =
       standing 1 t.entries ps stands ∙ (ap (flat_map slice_in) ps_is ∙ sym (partition_slices rs chain)) in
       let slices = slices_by_size b t rs chain same (nat_eq b 512) refl in
       keeps_gpt b o t o.labels
       (record {
         room = room;
-        some = omega (arith, c.is_table.count);
-        most = omega (arith, c.is_table.count);
-        low = omega (arith, c.is_table.first);
-        order = omega (arith, c.is_table.first, c.is_table.last, room);
-        high = omega (arith, c.is_table.last);
-        typed = all_typed b o.sectors guids ps t c.is_table c.may.enough c.may.known;
+        some = omega (arith, is_table.count);
+        most = omega (arith, is_table.count);
+        low = omega (arith, is_table.first);
+        order = omega (arith, is_table.first, is_table.last, room);
+        high = omega (arith, is_table.last);
+        typed = all_typed b o.sectors guids ps t is_table c.enough c.known;
       })
       (subst (λ (l : List Slice). AreLabelsOf l o.labels) (sym slices) (old_labels b o rs chain shaped is))
       (λ s there. same_slice b o rs chain s s (label_of o.labels s.number) is (subst (λ (l : List Slice). Contains l s) slices there) refl
@@ -363,4 +359,4 @@ keeps_converted b guids o p shaped c = subst (λ (q : Layout). Keeps b o.sectors
 
   by_body : (y : Body) → o.body ≡ y → Keeps b o.sectors (Some o) (record { sectors = o.sectors; body = Gpt t; labels = o.labels })
   by_body (Mbr rs chain) is = of_mbr rs chain is
-  by_body (Gpt u) is = absurd (subst HasRecords is c.may.is_mbr)
+  by_body (Gpt u) is = absurd (subst HasRecords is c.is_mbr)

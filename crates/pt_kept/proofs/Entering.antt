@@ -9,10 +9,11 @@ use Rattle.pt_mbr.specs.Chain.{IsUpward, lba}
 use Rattle.pt_mbr.specs.declared.record.Record.{Record}
 use Rattle.pt_mbr.specs.declared.ebr.Ebr.{Ebr}
 use Rattle.pt_mbr.specs.Records.{is_extended, extended_of, extent_of}
-use Rattle.pt_edit.specs.Chains.{ebr_at, IsEmptyIn, empty_sector}
+use Rattle.pt_edit.specs.Chains.{ebr_at, empty_sector}
 use Rattle.pt_cases.specs.Writes.{FitsRecord, FitsSlot, FitsLogical, Linked, FitsChain, FitsExtended}
 use Rattle.pt_kept.proofs.Lists.{contains_cases, contains_later}
 use Rattle.pt_kept.proofs.Tables.{contains_append}
+use Rattle.pt_edit.proofs.RecordSteps.{IsEmptyIn}
 
 -- where a link leads, a sector below it is below the next one's
 below_next : (x : Span) (from : Option Lba) (cs : List Ebr) (s : ℕ) → Linked x from cs → (0 < length cs → s < (ebr_at cs 0).at.0)

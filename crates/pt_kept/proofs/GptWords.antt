@@ -2,7 +2,7 @@
 use Rattle.std.specs.Prelude.{◌≡◌, ◌<◌, ◌≤◌, ◌+◌, ◌-◌, ◌*◌, ◌^◌, [], ℕ, Bool, true, false, List, length, replicate, Option, Some, None}
 use Rattle.std.specs.Prelude.{IfSome, Contains, nat_eq, ◌&&◌}
 use Rattle.std.proofs.Common.{refl, sym, ap, subst, ◌∙◌, inl, inr, arith}
-use Rattle.std.proofs.lemmas.Bool.{cases_lt, true≢false}
+use Rattle.std.proofs.lemmas.Bool.{and_from, both_ways, cases_lt, lt-ltb, or_left, true≢false}
 use Rattle.std.proofs.lemmas.List.{length-replicate, get_or-replicate}
 use Rattle.pt_guid.specs.Codes.{type_of}
 use Rattle.pt_guid.proofs.Terms.{types_are_used}
@@ -21,10 +21,10 @@ use Rattle.pt_members.specs.declared.layout.Layout.{Layout}
 use Rattle.pt_members.specs.declared.layout.Body.TheVariants.{Gpt}
 use Rattle.pt_words.specs.declared.word.Code.{Code}
 use Rattle.pt_words.specs.declared.word.Code.TheVariants.{Two, Four}
-use Rattle.pt_edit.proofs.SpaceTerms.{placed_is_free_lem}
-use Rattle.pt_edit.specs.Entries.{HasUsedEntry, Changed, DiskSet, Extended, with_entry, with_body, is_slice, entry_type, EntryTyped}
-use Rattle.pt_edit.specs.Entries.{EntryDeleted, IsUnusedEntry, TakesNumber, given, lowest, new_type, table_area, run_length, new_entry_of}
-use Rattle.pt_edit.specs.Entries.{new_labels, with_new_entry, EntryMade}
+use Rattle.pt_edit.proofs.Placing.{placed_is_free_lem}
+use Rattle.pt_edit.specs.Entries.{with_entry, with_table, is_slice, entry_type}
+use Rattle.pt_edit.specs.Entries.{is_wrong_size, new_type, table_area, run_length, new_entry_of}
+use Rattle.pt_edit.specs.Entries.{new_labels, with_new_entry}
 use Rattle.pt_edit.specs.Edited.{empty_gpt}
 use Rattle.pt_words.specs.declared.asked.Asked.{Asked}
 use Rattle.pt_cases.specs.Writes.{FitsTable, AreLabelsOf, Shaped}
@@ -32,6 +32,7 @@ use Rattle.pt_cases.specs.Keeps.{Keeps}
 use Rattle.pt_kept.proofs.Entries.{entry_numbered, entries_many, many_none}
 use Rattle.pt_kept.proofs.Tables.{keeps_table, keeps_small, keeps_entry, keeps_without, keeps_leaf, keeps_slice, table_fits, no_record}
 use Rattle.pt_kept.proofs.Tables.{no_ebr}
+use Rattle.pt_edit.proofs.EntrySteps.{Changed, EntryDeleted, EntryMade, EntryTyped, HasUsedEntry, IsUnusedEntry, TableMade}
 
 -- no type GUID of a code is zero
 pub code_typed : (code : ℕ) (kind : List ℕ) → type_of code ≡ Some kind → ¬ (kind ≡ replicate 16 0)
@@ -57,7 +58,7 @@ same_entry_slice : (n : ℕ) (e f : Entry) → f.kind ≡ e.kind → f.first ≡
 same_entry_slice n e f kind first last = entry_some n f ∙ (rw (kind, first, last) refl ∙ sym (entry_some n e))
 
 keeps_change : (b number : ℕ) (o p : Layout) (t : Table) (e f : Entry) → Shaped b o → o.body ≡ Gpt t → HasUsedEntry t number e
-    → f.kind ≡ e.kind → f.first ≡ e.first → f.last ≡ e.last → p ≡ with_body o (Gpt (with_entry t number f)) → Keeps b o.sectors (Some o) p
+    → f.kind ≡ e.kind → f.first ≡ e.first → f.last ≡ e.last → p ≡ with_table o (with_entry t number f) → Keeps b o.sectors (Some o) p
 keeps_change b number o p t e f shaped is has kind first last made =
     subst (λ (q : Layout). Keeps b o.sectors (Some o) q) (sym made)
     (keeps_entry b number o t (Some f) shaped is has.first has.last
@@ -65,16 +66,17 @@ keeps_change b number o p t e f shaped is has kind first last made =
     (same_entry_slice number e f kind first last ∙ sym (ap (entry_slice number) has.used)))
 
 -- `c`, `u`, `A`: a used entry becomes another with the same type and sectors
-pub keeps_changed : (b number : ℕ) (Allowed : Table → Type 0) (change : Entry → Entry) (o p : Layout)
+pub keeps_changed : (b number : ℕ) (change : Entry → Entry) (o p : Layout)
     → ((e : Entry) → (change e).kind ≡ e.kind) → ((e : Entry) → (change e).first ≡ e.first) → ((e : Entry) → (change e).last ≡ e.last)
     → Shaped b o
-    → Changed number Allowed change o p → Keeps b o.sectors (Some o) p
-keeps_changed b number Allowed change o p kind first last shaped c =
+    → Changed number change o p → Keeps b o.sectors (Some o) p
+keeps_changed b number change o p kind first last shaped c =
     keeps_change b number o p c.table c.entry (change c.entry) shaped c.is_table c.is_entry (kind c.entry) (first c.entry) (last c.entry)
     c.made
 
 -- `U`
-pub keeps_disk : (b : ℕ) (guid : Guid) (o p : Layout) → Shaped b o → DiskSet guid o p → Keeps b o.sectors (Some o) p
+pub keeps_disk : (b : ℕ) (guid : Guid) (o p : Layout) → Shaped b o → TableMade (λ t. record t { disk = guid }) o p
+    → Keeps b o.sectors (Some o) p
 keeps_disk b guid o p shaped (t, is, made) =
     let fits = table_fits b o t shaped is in
     subst (λ (q : Layout). Keeps b o.sectors (Some o) q) (sym made)
@@ -91,7 +93,8 @@ keeps_disk b guid o p shaped (t, is, made) =
     }) refl)
 
 -- `e`
-pub keeps_extended : (b : ℕ) (o p : Layout) → Shaped b o → Extended b o p → Keeps b o.sectors (Some o) p
+pub keeps_extended : (b : ℕ) (o p : Layout) → Shaped b o → TableMade (λ t. record t { last = o.sectors - edge b }) o p
+    → Keeps b o.sectors (Some o) p
 keeps_extended b o p shaped (t, is, made) =
     let fits = table_fits b o t shaped is in
     subst (λ (q : Layout). Keeps b o.sectors (Some o) q) (sym made)
@@ -127,7 +130,7 @@ keeps_typed b number code o p t shaped is x = subst (λ (q : Layout). Keeps b o.
       typed : IsTyped new
       typed = type_typed code x.kind x.known
 
-      by_size : (c : Bool) → nat_eq b 512 ≡ c → Keeps b o.sectors (Some o) (with_body o (Gpt u))
+      by_size : (c : Bool) → nat_eq b 512 ≡ c → Keeps b o.sectors (Some o) (with_table o u)
       by_size true large =
           keeps_entry b number o t (Some new) shaped is x.is_entry.first x.is_entry.last typed
           (plain_slice b number new (is_slice_kind new.kind.0) large x.new refl
@@ -140,10 +143,6 @@ pub keeps_deleted : (b number : ℕ) (o p : Layout) (t : Table) → Shaped b o �
 keeps_deleted b number o p t shaped is x = subst (λ (q : Layout). Keeps b o.sectors (Some o) q) (sym x.made)
     (keeps_without b number o t shaped is x.is_entry.first x.is_entry.last)
 
-unused_of : (t : Table) (wanted number : ℕ) → TakesNumber t wanted number → IsUnusedEntry t number
-unused_of t wanted number (given some unused same) = subst (IsUnusedEntry t) (sym same) unused
-unused_of t wanted number (lowest asked unused least) = unused
-
 and_left : (p q : Bool) → (p && q) ≡ true → p ≡ true
 and_left true q is = refl
 and_left false q is = is
@@ -153,9 +152,9 @@ and_right true q is = is
 and_right false q is = let both : false ≡ true = is in absurd (true≢false (sym both))
 
 -- `n`
-pub keeps_made : (b : ℕ) (a : Asked) (fresh : List Guid) (o p : Layout) (t : Table) → o.sectors < 2 ^ 63 → Shaped b o → o.body ≡ Gpt t
-    → EntryMade b t a fresh o p → Keeps b o.sectors (Some o) p
-keeps_made b a fresh o p t small shaped is x = subst (λ (q : Layout). Keeps b o.sectors (Some o) q) (sym x.made)
+pub keeps_made : (b : ℕ) (a : Asked) (o p : Layout) (t : Table) → o.sectors < 2 ^ 63 → Shaped b o → o.body ≡ Gpt t
+    → EntryMade b t a o p → Keeps b o.sectors (Some o) p
+keeps_made b a o p t small shaped is x = subst (λ (q : Layout). Keeps b o.sectors (Some o) q) (sym x.made)
     (by_slice (is_slice b x.kind) refl) where
       e : Entry
       e = new_entry_of x.kind x.guid x.run
@@ -164,16 +163,16 @@ keeps_made b a fresh o p t small shaped is x = subst (λ (q : Layout). Keeps b o
       fits = table_fits b o t shaped is
 
       unused : IsUnusedEntry t x.number
-      unused = unused_of t a.number x.number x.place.takes
+      unused = x.unused
 
       typed : IsTyped e
-      typed = new_typed a.code x.kind x.place.known
+      typed = new_typed a.code x.kind x.known
 
       some : x.run.first ≤ x.run.last
-      some = (placed_is_free_lem (table_area t) a.alignment a.start a.end x.run x.place.placed).some
+      some = (placed_is_free_lem (table_area t) a.alignment a.start a.end x.run x.placed).some
 
       top : x.run.last ≤ t.last
-      top = let free = placed_is_free_lem (table_area t) a.alignment a.start a.end x.run x.place.placed in
+      top = let free = placed_is_free_lem (table_area t) a.alignment a.start a.end x.run x.placed in
           (free.free x.run.last (free.some, omega arith)).0.1
 
       room : HasRoom b o.sectors
@@ -181,8 +180,11 @@ keeps_made b a fresh o p t small shaped is x = subst (λ (q : Layout). Keeps b o
 
       by_slice : (c : Bool) → is_slice b x.kind ≡ c → Keeps b o.sectors (Some o) (with_new_entry b t x.number x.kind x.guid x.run o)
       by_slice true it =
-          let long : x.run.first < x.run.last = elim (cases_lt (run_length x.run) 2) as (λ _. x.run.first < x.run.last)
-          [ inl short ↦ absurd (x.size (record { is_slice = it; wrong = inl short })) | inr enough ↦ omega (arith, enough) ] in
+          let long : x.run.first < x.run.last = elim (cases_lt (run_length x.run) 2) as (λ _. x.run.first < x.run.last) [
+            | inl short ↦ absurd (both_ways (is_wrong_size b x.kind x.run) x.size
+                (and_from (is_slice b x.kind) _ it (or_left _ _ (lt-ltb (run_length x.run) 2 short))))
+            | inr enough ↦ omega (arith, enough)
+          ] in
           let labels : new_labels b x.number x.kind x.run o.labels ≡ with_new_label x.number (empty_of (run_length x.run)) o.labels =
           rw it refl in
           subst (λ (l : List Labelled). Keeps b o.sectors (Some o)

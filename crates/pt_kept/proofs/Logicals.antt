@@ -20,7 +20,7 @@ use Rattle.pt_edit.specs.SliceLabels.{lowered}
 use Rattle.pt_words.specs.declared.word.Code.{Code}
 use Rattle.pt_words.specs.declared.word.Code.TheVariants.{Two, Four}
 use Rattle.pt_edit.specs.Records.{record_type, is_container}
-use Rattle.pt_edit.specs.Chains.{ebr_at, LogicalTyped, LogicalDeleted}
+use Rattle.pt_edit.specs.Chains.{ebr_at}
 use Rattle.pt_cases.specs.Writes.{FitsRecord, FitsLogical, Linked, FitsExtended, FitsMbr, AreLabelsOf, Shaped}
 use Rattle.pt_cases.specs.Keeps.{IsOldLabel, IsNewLabel, IsRetyped, IsMadeLogical, Keeps}
 use Rattle.pt_kept.proofs.Lists.{slices_by, contains_filter}
@@ -30,6 +30,7 @@ use Rattle.pt_kept.proofs.Chain.{slices_lowered, lowered_append, lowered_low}
 use Rattle.pt_kept.proofs.Moved.{are_lowered, label_of_lowered}
 use Rattle.pt_kept.proofs.Mbr.{mbr_of, WasLogical, keeps_mbr, body_fits, old_labels, same_slice, same_records, same_logical, any_default}
 use Rattle.pt_kept.proofs.Mbr.{contains_set, contains_at, contains_map, fits_set, number_same}
+use Rattle.pt_edit.proofs.RecordSteps.{LogicalDeleted, LogicalTyped}
 
 -- a type that a code gives a record is none of an unused or of a protective one
 pub type_plain : (code : Code) (kind : ℕ) → record_type code ≡ Some kind → (kind ≢ 0) × (kind ≢ 0xEE)

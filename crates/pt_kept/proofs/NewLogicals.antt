@@ -24,12 +24,12 @@ use Rattle.pt_members.specs.declared.layout.Body.TheVariants.{Mbr}
 use Rattle.pt_edit.specs.SliceLabels.{raised, with_new_label}
 use Rattle.pt_words.specs.declared.word.Code.{Code}
 use Rattle.pt_words.specs.declared.word.End.{End}
-use Rattle.pt_edit.specs.declared.space.space.Run.{Run}
+use Rattle.pt_edit.specs.declared.space.Run.{Run}
 use Rattle.pt_edit.specs.Space.{IsInRuns}
-use Rattle.pt_edit.proofs.SpaceTerms.{placed_is_free_lem}
+use Rattle.pt_edit.proofs.Placing.{placed_is_free_lem}
 use Rattle.pt_edit.specs.Records.{new_type, is_slice}
-use Rattle.pt_edit.specs.Chains.{ebr_at, number_at, with_logical, IsEmptyAt, IsPlaceFor, with_ebr, Entered, reused, added, logical_area}
-use Rattle.pt_edit.specs.Chains.{len_of, record_for, IsMisfit, labels_with, NewKind, LogicalNew, empty_sector, taken_of}
+use Rattle.pt_edit.specs.Chains.{ebr_at, number_at, with_logical, with_ebr, logical_area}
+use Rattle.pt_edit.specs.Chains.{len_of, record_for, labels_with, empty_sector, taken_of}
 use Rattle.pt_cases.specs.Writes.{FitsLogical, FitsChain, FitsExtended, FitsMbr, AreLabelsOf, Shaped, NumbersAscend}
 use Rattle.pt_cases.specs.Keeps.{IsOldLabel, IsNewLabel, IsMadeLogical, Keeps}
 use Rattle.pt_cases.proofs.Terms.{same_but_parts_refl}
@@ -46,6 +46,7 @@ use Rattle.pt_kept.proofs.Mbr.{contains_at, contains_map, fits_set, number_same}
 use Rattle.pt_kept.proofs.Logicals.{type_plain, not_extended, read_at}
 use Rattle.pt_edit.proofs.LinkLaws.{not_own}
 use Rattle.pt_kept.proofs.Entering.{linked_enter, first_at, contains_insert, empty_listed, extended_fits, chain_of, refit_one}
+use Rattle.pt_edit.proofs.RecordSteps.{Entered, IsEmptyAt, IsMisfit, IsPlaceFor, LogicalNew, NewKind, added, reused}
 
 -- the type of a new record is none of an unused or of a protective one
 pub new_plain : (code : Option Code) (kind : ℕ) → new_type code ≡ Some kind → (kind ≢ 0) × (kind ≢ 0xEE)

@@ -1,8 +1,9 @@
 -- What a new record of an MBR keeps.
+use Rattle.std.specs.Prelude.{is_some}
 use Rattle.std.specs.Prelude.{◌≡◌, ◌<◌, ◌≤◌, ◌⊎◌, ◌+◌, ◌-◌, ◌++◌, ◌∷◌, [], ℕ, zero, suc, Bool, true, false, List, length, slice_index_or}
 use Rattle.std.specs.Prelude.{slice_set, slice_get, Option, Some, None, Contains, nat_eq}
 use Rattle.std.proofs.Common.{refl, sym, ap, subst, ◌∙◌, inl, inr, arith, append_assoc}
-use Rattle.std.proofs.lemmas.Bool.{cases_lt, eqb-true, lt-ltb, le-ltb, true≢false}
+use Rattle.std.proofs.lemmas.Bool.{and_from, both_ways, cases_lt, eqb-true, le-ltb, lt-ltb, true≢false}
 use Rattle.std.proofs.lemmas.List.{length-set, append-nil, length-append}
 use Rattle.std.proofs.lemmas.List.Elements.{filter-append}
 use Rattle.pt_mbr.specs.Chain.{lba}
@@ -21,10 +22,10 @@ use Rattle.pt_members.specs.declared.layout.Body.TheVariants.{Mbr}
 use Rattle.pt_edit.specs.SliceLabels.{with_new_label}
 use Rattle.pt_words.specs.declared.word.Code.{Code}
 use Rattle.pt_words.specs.declared.word.End.{End}
-use Rattle.pt_edit.proofs.SpaceTerms.{placed_is_free_lem}
-use Rattle.pt_edit.specs.Records.{is_slice, IsUnusedNumber, TakesRecordNumber, as_asked, lowest_one}
+use Rattle.pt_edit.proofs.Placing.{placed_is_free_lem}
+use Rattle.pt_edit.specs.Records.{is_slice}
 use Rattle.pt_edit.specs.Chains.{len_of}
-use Rattle.pt_edit.specs.MbrEdits.{extended_record, disk_area, record_at, new_chain, new_labels, RecordMade}
+use Rattle.pt_edit.specs.MbrEdits.{disk_area, extended_record, is_second, is_short_slice, new_chain, new_labels, record_at}
 use Rattle.pt_cases.specs.Writes.{FitsRecord, FitsExtended, FitsMbr, AreLabelsOf, Shaped}
 use Rattle.pt_cases.specs.Keeps.{IsMadeRecord, IsMadeLogical, Keeps}
 use Rattle.pt_kept.proofs.Lists.{slices_by, are_entered, contains_cases}
@@ -36,12 +37,9 @@ use Rattle.pt_kept.proofs.Mbr.{mbr_of, WasRecord, WasLogical, keeps_mbr, body_fi
 use Rattle.pt_kept.proofs.NewLogicals.{new_plain}
 use Rattle.pt_kept.proofs.Records.{extended_first, extended_same, extended_yes, extended_no, none_extended, extended_in, slots_set}
 use Rattle.pt_kept.proofs.Records.{set_records, within_four, leaf_record, no_record_slice}
+use Rattle.pt_edit.proofs.RecordSteps.{IsUnusedNumber, RecordMade}
 
 -- the number of a new record is one of the four, and unused
-unused_of : (rs : List (Option Record)) (asked number : ℕ) → TakesRecordNumber rs asked number → IsUnusedNumber rs number
-unused_of rs asked number (as_asked same unused) = unused
-unused_of rs asked number (lowest_one none lowest) = lowest.unused
-
 -- higher slices stay behind
 around_high : (k : ℕ) (new ss : List Slice) (es : List Ebr) → k < 5
     → around k new (ss ++ logical_slices 5 es) ≡ around k new ss ++ logical_slices 5 es
@@ -143,7 +141,7 @@ keeps_record_new b asked alignment start end code o p rs chain shaped is new =
       old = body_fits b o rs chain shaped is
 
       unused : IsUnusedNumber rs number
-      unused = unused_of rs asked number new.chosen.takes
+      unused = new.unused
 
       lt : k < length rs
       lt = within_four rs number old.four unused.primary
@@ -164,7 +162,7 @@ keeps_record_new b asked alignment start end code o p rs chain shaped is new =
 
       good : FitsRecord r
       good =
-          let plain = new_plain code kind new.chosen.known in
+          let plain = new_plain code kind new.known in
           record {
             typed = plain.0;
             plain = plain.1;
@@ -232,7 +230,9 @@ keeps_record_new b asked alignment start end code o p rs chain shaped is new =
           (plain_keeps (first ∷ []) fits slices (λ e q stands has. absurd (lone_empty first e q refl stands has)))) where
             no_second : (x : Option Record) → extended_record rs ≡ x → is_extended kind ≡ true → slice_get (extended_of rs) 0 ≡ None
             no_second None same it = same
-            no_second (Some q) same it = absurd (new.chosen.lone (it, λ none. (let both : Some q ≡ None = sym same ∙ none in absurd cc)))
+            no_second (Some q) same it =
+                absurd (both_ways (is_second rs kind) new.lone
+                (and_from (is_extended kind) _ it (ap (λ (x : Option Record). is_some x) same)))
 
       -- any other
       fits_plain : is_extended kind ≡ false → FitsMbr made chain
@@ -259,7 +259,11 @@ keeps_record_new b asked alignment start end code o p rs chain shaped is new =
           ap (λ (y : Slice). y.len) s_is ∙ (slice_len number (0 + new.run.first) (0 + new.run.first + len_of new.run - 1)
           (omega (arith, some)) (omega (arith, some, last_high)) ∙ omega (arith, some)) in
           let long : 2 ≤ s.len = elim (cases_lt (len_of new.run) 2)
-          as (λ _. 2 ≤ s.len) [ inl short ↦ absurd (new.enough (it, short)) | inr enough ↦ omega (arith, len, enough) ] in
+          as (λ _. 2 ≤ s.len) [
+            | inl short ↦ absurd (both_ways (is_short_slice b kind new.run) new.enough
+                (and_from (is_slice b kind) _ it (lt-ltb _ 2 short)))
+            | inr enough ↦ omega (arith, len, enough)
+          ] in
           let chain_is : new_chain kind new.run chain ≡ chain = rw other refl in
           let labels : new_labels b number kind new.run o.labels ≡ with_new_label number (empty_of s.len) o.labels =
           rw it (ap (λ (n : ℕ). with_new_label number (empty_of n) o.labels) (sym len)) in

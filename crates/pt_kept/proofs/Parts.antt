@@ -7,13 +7,13 @@ use Rattle.pt_bsd.specs.declared.label.Label.{Label}
 use Rattle.pt_bsd.specs.declared.label.LabelEntry.{LabelEntry}
 use Rattle.pt_members.specs.Members.{slices_of, label_of}
 use Rattle.pt_members.specs.declared.layout.Layout.{Layout}
-use Rattle.pt_members.specs.declared.member.Member.{Member}
-use Rattle.pt_edit.specs.SliceLabels.{with_label, HasPartEntry, PartMade, with_part, with_entry_of}
+use Rattle.pt_edit.specs.SliceLabels.{with_label, with_part, with_entry_of}
 use Rattle.pt_cases.specs.Writes.{Shaped}
 use Rattle.pt_cases.specs.Keeps.{LabelStays, Keeps}
 use Rattle.pt_cases.proofs.Terms.{label_stays_refl_lem}
 use Rattle.pt_cases.proofs.Ascending.{slices_ascend_lem}
 use Rattle.pt_kept.proofs.Order.{are_with, label_of_with, label_of_changed, part_fits, same_but_part}
+use Rattle.pt_edit.proofs.LabelSteps.{HasPartEntry, PartMade}
 
 -- an entry that stands in a list stands inside it
 pub there : (es : List (Option LabelEntry)) (k : ℕ) (e : LabelEntry) → slice_index_or es k None ≡ Some e → k < length es
@@ -23,9 +23,9 @@ there es k e has = elim (cases_lt k (length es)) as (λ _. k < length es) [
 ]
 
 -- another entry of a letter in a slice's label
-pub keeps_entry_of : (b number letter : ℕ) (o : Layout) (m : Member) (l : Label) (old new : LabelEntry) → Shaped b o
-    → HasPartEntry b o number letter m l old → Keeps b o.sectors (Some o) (with_entry_of number l letter new o)
-keeps_entry_of b number letter o m l old new shaped has = record {
+pub keeps_entry_of : (b number letter : ℕ) (o : Layout) (l : Label) (old new : LabelEntry) → Shaped b o
+    → HasPartEntry o number letter l old → Keeps b o.sectors (Some o) (with_entry_of number l letter new o)
+keeps_entry_of b number letter o l old new shaped has = record {
   sectors = refl;
   shaped = record {
     body = shaped.body;
@@ -55,8 +55,7 @@ keeps_entry_of b number letter o m l old new shaped has = record {
       (label_stays_refl_lem (label_of o.labels k))
 
 -- a partition of a label that becomes another, or none
-pub keeps_part : (b number letter : ℕ) (Becomes : LabelEntry → LabelEntry → Type 0) (o p : Layout) → Shaped b o
-    → PartMade b number letter Becomes o p → Keeps b o.sectors (Some o) p
-keeps_part b number letter Becomes o p shaped made =
+pub keeps_part : (b number letter : ℕ) (o p : Layout) → Shaped b o → PartMade number letter o p → Keeps b o.sectors (Some o) p
+keeps_part b number letter o p shaped made =
     subst (λ (q : Layout). Keeps b o.sectors (Some o) q) (sym made.made)
-    (keeps_entry_of b number letter o made.slice made.label made.old made.new shaped made.is_part.entry)
+    (keeps_entry_of b number letter o made.label made.old made.new shaped made.entry)

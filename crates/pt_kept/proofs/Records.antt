@@ -15,8 +15,6 @@ use Rattle.pt_members.specs.declared.layout.Layout.{Layout}
 use Rattle.pt_members.specs.declared.layout.Body.TheVariants.{Mbr}
 use Rattle.pt_edit.specs.SliceLabels.{without_label, without_logicals}
 use Rattle.pt_words.specs.declared.word.Code.{Code}
-use Rattle.pt_edit.specs.Records.{IsPrimary}
-use Rattle.pt_edit.specs.MbrEdits.{PrimaryTyped, PrimaryDeleted, plain, extended}
 use Rattle.pt_cases.specs.Writes.{FitsRecord, FitsSlot, FitsExtended, FitsMbr, AreLabelsOf, Shaped}
 use Rattle.pt_cases.specs.Keeps.{IsRetyped, IsMadeRecord, Keeps}
 use Rattle.pt_kept.proofs.Lists.{slices_by, are_filter, label_of_by, contains_filter}
@@ -25,6 +23,7 @@ use Rattle.pt_cases.proofs.Ascending.{logicals_ascend}
 use Rattle.pt_kept.proofs.Chain.{ascending_kept, ascending_gone, by_below, primaries_below}
 use Rattle.pt_kept.proofs.Mbr.{mbr_of, WasRecord, keeps_mbr, body_fits, old_labels, same_slice, same_records, same_logical}
 use Rattle.pt_kept.proofs.Logicals.{type_plain, container_plain, container_leaf, logical_of}
+use Rattle.pt_edit.proofs.RecordSteps.{IsPrimary, PrimaryDeleted, PrimaryTyped, extended, plain}
 
 -- the extended records of one record
 abbrev pub extended_in : Option Record → List Record
