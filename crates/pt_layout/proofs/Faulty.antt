@@ -13,6 +13,8 @@ use Rattle.pt_layout.specs.declared.sound.spot.Spot.{Spot}
 use Rattle.pt_layout.specs.declared.sound.faults.Fault.TheVariants.{Outside, Buried}
 use Rattle.pt_path.specs.Paths.{rank}
 use Rattle.pt_members.specs.Members.{Exists, Group, groups_of}
+use Rattle.pt_members.specs.Rows.{IsMember}
+use Rattle.pt_members.proofs.ByRows.{grouped_member, member_grouped}
 use Rattle.pt_layout.specs.Sound.{nobody, IsApart, LiesInside, IsMemberOf, AllInside, AllApart, OffTables, IsBuried, IsOutside}
 use Rattle.pt_layout.specs.Sound.{IsFirstOutside, IsFirstShared, IsFirstBuried}
 use Rattle.pt_layout.specs.inner.Sound.{SpotIsBefore, spot, LeastIs, FaultAmong, no_group, AllOrdered, SharedIs}
@@ -29,6 +31,10 @@ inside_stable g m nn = record {
   low = stable_le g.low m.first (λ no. nn (λ is. no is.low));
   high = stable_le m.last g.high (λ no. nn (λ is. no is.high));
 }
+
+-- a member of a group is a member
+pub member_there : (b : ℕ) (o : Layout) (g : Group) (m : Member) → IsMemberOf b o g m → IsMember b o m
+member_there b o g m is = grouped_member b o m (record { group = g; stands = is.stands; sibling = is.sibling })
 
 -- a member of a group, by places
 of_place : (b : ℕ) (o : Layout) (j i : ℕ) → j < length (groups_of b o) → i < length (get_or (groups_of b o) j no_group).members
@@ -98,26 +104,26 @@ outside_first b o s is = record {
 -- tables in members
 buried_of : (b : ℕ) (o : Layout) (q : Path) (t : ℕ) → FaultAmong b o Buried (groups_of b o) q t
     → (m : Member) × (m.path ≡ q) × IsBuried b o m t
-buried_of b o q t (j, low, (i, lt, (path, exists, (kind, holds, table, foreign)))) =
-    let of = of_place b o j i low lt in (
-      get_or (get_or (groups_of b o) j no_group).members i nobody,
-      path,
-      record {
-        is_member = record { group = get_or (groups_of b o) j no_group; stands = of.stands; sibling = of.sibling };
-        kind = kind;
-        holds = holds;
-        table = table;
-        foreign = foreign;
-      },
-    )
+buried_of b o q t (j, low, (i, lt, (path, exists, (kind, holds, table, foreign)))) = (
+  get_or (get_or (groups_of b o) j no_group).members i nobody,
+  path,
+  record {
+    is_member = member_there b o _ _ (of_place b o j i low lt);
+    kind = kind;
+    holds = holds;
+    table = table;
+    foreign = foreign;
+  },
+)
 
 abbrev IsIn : ℕ → Layout → ℕ → Path → Group → Member → Type 0
 IsIn b o t q g m = (m.path ≡ q) × Exists m × IsBuried b o m t
 
 buried_at : (b : ℕ) (o : Layout) (m : Member) (t : ℕ) → AllInside b o → IsBuried b o m t → FaultAmong b o Buried (groups_of b o) m.path t
 buried_at b o m t inside is =
-    let of : IsMemberOf b o is.is_member.group m = record { stands = is.is_member.stands; sibling = is.is_member.sibling } in
-    let p = to_place b o (IsIn b o t m.path) is.is_member.group m of (refl, (inside is.is_member.group m of).exists, is) in
+    let g = member_grouped b o m is.is_member in
+    let of : IsMemberOf b o g.group m = record { stands = g.stands; sibling = g.sibling } in
+    let p = to_place b o (IsIn b o t m.path) g.group m of (refl, (inside g.group m of).exists, is) in
     (p.j, p.low, (p.i, p.lt, (p.here.0, p.here.1, (p.here.2.kind, p.here.2.holds, p.here.2.table, p.here.2.foreign))))
 
 pub off_all : (b : ℕ) (o : Layout) → AllInside b o → LeastIs (FaultAmong b o Buried (groups_of b o)) None → OffTables b o

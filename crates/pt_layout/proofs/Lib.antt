@@ -1,10 +1,10 @@
 pub mod Apart
-pub mod Chosen
 pub mod Extended
 pub mod Failing
 pub mod Faulty
 pub mod First
 pub mod Foreignness
+pub mod Found
 pub mod Guarded
 pub mod Marks
 pub mod OneFindingLemmas

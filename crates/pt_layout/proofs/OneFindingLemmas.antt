@@ -16,7 +16,7 @@ use Rattle.pt_gpt.specs.declared.table.Side.TheVariants.{Primary, Backup}
 use Rattle.pt_bsd.specs.declared.label.Label.{Label}
 use Rattle.pt_bsd.specs.declared.label.LabelEntry.{LabelEntry}
 use Rattle.pt_members.specs.Members.{places_of, number_path, letter_path, slots, Group, groups_of, part_of, parts_as, parts_in, label_of}
-use Rattle.pt_members.specs.Members.{IsMember}
+use Rattle.pt_members.specs.Rows.{IsMember}
 use Rattle.pt_recover.specs.Denotes.{LabelsAre, BodyIs, Denotes, IsReason}
 use Rattle.pt_recover.proofs.Terms.{denotes_one_lem, reason_is_one_lem}
 use Rattle.pt_recover.specs.declared.error.NoTable.{NoTable as NoTableValue}
@@ -38,9 +38,11 @@ use Rattle.pt_layout.specs.inner.Sound.{IsOrdered}
 use Rattle.pt_layout.specs.Sound.{IsApart, IsFirstOverlap, AllInside, AllApart, Sound, IsFirstOutside, IsFirstShared, IsFirstBuried}
 use Rattle.pt_layout.specs.Sound.{IsFirstSameGuid, IsUnsound}
 use Rattle.pt_layout.proofs.Apart.{not_apart}
-use Rattle.pt_members.specs.inner.Tables.{AtPlace, IsNear}
-use Rattle.pt_members.proofs.Grouped.{member_place}
-use Rattle.pt_members.proofs.OnePathLemmas.{place_cases, part_path, slot_whole}
+use Rattle.pt_members.proofs.Standing.{AtPlace, IsNear}
+use Rattle.pt_members.proofs.ByRows.{member_place}
+use Rattle.pt_members.proofs.Grouped.{contains_head, contains_tail}
+use Rattle.pt_layout.proofs.Faulty.{member_there}
+use Rattle.pt_members.proofs.Paths.{place_cases, part_path, slot_whole}
 use Rattle.pt_layout.proofs.OneOrder.{overlap_one}
 use Rattle.pt_layout.specs.Healthy.{HasCopies, IsBodyWhole, IsBodyBroken}
 use Rattle.pt_layout.specs.Healthy.{IsFirstForeign, IsLayoutFinding, IsFinding, VerdictIs, HasEight}
@@ -113,14 +115,8 @@ outside_one b o p q eight x y =
     rank_one p q (named p x) (named q y) (omega arith) where
       named : (r : Path) → IsFirstOutside b o r → IsNamed r
       named r z =
-          subst IsNamed z.here.path (member_named b o z.here.member eight
-          (record { group = z.here.group; stands = z.here.is_of.stands; sibling = z.here.is_of.sibling }))
-
-head_of : (x : Group) (xs : List Group) → Contains (x ∷ xs) x
-head_of x xs = (0, omega arith, refl)
-
-rest_of : (x g : Group) (xs : List Group) → Contains xs g → Contains (x ∷ xs) g
-rest_of x g xs is = (suc is.0, omega (arith, is.1), is.2)
+          subst IsNamed z.here.path
+          (member_named b o z.here.member eight (member_there b o z.here.group z.here.member z.here.is_of))
 
 -- the first group that isn't apart
 group_one : (xs ys us vs : List Group) (g h : Group) → xs ++ g ∷ us ≡ ys ++ h ∷ vs
@@ -128,17 +124,17 @@ group_one : (xs ys us vs : List Group) (g h : Group) → xs ++ g ∷ us ≡ ys +
     → ¬ IsApart h.members → g ≡ h
 group_one [] [] us vs g h same p q x y = cc
 group_one [] (k ∷ ys) us vs g h same p q x y =
-    (let e : k ≡ g = cc in absurd (x (subst (λ (z : Group). IsApart z.members) e (q k (head_of k ys)))))
+    (let e : k ≡ g = cc in absurd (x (subst (λ (z : Group). IsApart z.members) e (q k (contains_head k ys)))))
 group_one (k ∷ xs) [] us vs g h same p q x y =
-    (let e : k ≡ h = cc in absurd (y (subst (λ (z : Group). IsApart z.members) e (p k (head_of k xs)))))
+    (let e : k ≡ h = cc in absurd (y (subst (λ (z : Group). IsApart z.members) e (p k (contains_head k xs)))))
 group_one (k ∷ xs) (l ∷ ys) us vs g h same p q x y =
     let rest : xs ++ g ∷ us ≡ ys ++ h ∷ vs = cc in
-    group_one xs ys us vs g h rest (λ z c. p z (rest_of k z xs c)) (λ z c. q z (rest_of l z ys c)) x y
+    group_one xs ys us vs g h rest (λ z c. p z (contains_tail k xs z c)) (λ z c. q z (contains_tail l ys z c)) x y
 
 shared_stands : (b : ℕ) (o : Layout) (p q : Path) (x : IsFirstShared b o p q) → Contains (groups_of b o) x.group
 shared_stands b o p q x =
     subst (λ (l : List Group). Contains l x.group) (sym x.stands)
-    (Contains-append_right x.before (x.group ∷ x.rest) x.group (head_of x.group x.rest))
+    (Contains-append_right x.before (x.group ∷ x.rest) x.group (contains_head x.group x.rest))
 
 not_shared : (b : ℕ) (o : Layout) (p q : Path) → AllInside b o → (x : IsFirstShared b o p q) → ¬ IsApart x.group.members
 not_shared b o p q inside x =

@@ -14,14 +14,16 @@ use Rattle.pt_path.specs.declared.path.Path.{Path}
 use Rattle.pt_members.specs.declared.member.Kind.TheVariants.{Leaf, Slice, Extended}
 use Rattle.pt_members.specs.declared.member.Member.{Member}
 use Rattle.pt_members.specs.Members.{Holds, Group, group_of, groups_of, group_in, top_group, strays, present, slots, tops, logicals}
-use Rattle.pt_members.specs.Members.{logicals_as, parts, IsMember}
+use Rattle.pt_members.specs.Members.{logicals_as, parts}
+use Rattle.pt_members.specs.Rows.{IsMember}
 use Rattle.pt_layout.specs.Sound.{IsApart, Sound}
 use Rattle.pt_layout.proofs.Apart.{two_in}
-use Rattle.pt_members.specs.inner.Tables.{AtPlace, IsNear, InLayout}
+use Rattle.pt_members.proofs.Standing.{AtPlace, IsNear, InLayout}
 use Rattle.pt_members.specs.Tables.{IsPlaceOf}
 use Rattle.pt_members.proofs.Grouped.{layout_of, present_split, place_left, to_present, to_flat, contains_head, contains_tail}
 use Rattle.pt_members.proofs.Grouped.{top_members, slice_group, extended_group, held_by_slice, held_by_extended, extended_member}
-use Rattle.pt_members.proofs.Grouped.{member_place, slice_group_is, extended_group_is}
+use Rattle.pt_members.proofs.Grouped.{slice_group_is, extended_group_is}
+use Rattle.pt_members.proofs.ByRows.{member_place}
 
 -- of siblings that are apart, one has the sector
 pub same_index : (s : ℕ) (ms : List Member) (i j : ℕ) (d e : Member) → IsApart ms → i < length ms → j < length ms

@@ -26,7 +26,7 @@ use Rattle.pt_layout.specs.inner.Sound.{IsOrdered}
 use Rattle.pt_layout.proofs.Apart.{not_apart}
 use Rattle.pt_members.specs.Tables.{IsTable, HasFour, IsPlaceOf, Owns}
 use Rattle.pt_layout.proofs.OneHome.{place_one}
-use Rattle.pt_members.proofs.OnePathLemmas.{sector_one}
+use Rattle.pt_members.proofs.InOrder.{sector_one}
 use Rattle.pt_layout.specs.Sound.{AllInside, Sound, IsFirstShared, IsUnsound}
 use Rattle.pt_layout.specs.Healthy.{IsWhole, IsBodyWhole, IsHealthy, Healthy, IsBodyBroken, IsLayoutFinding, IsFinding}
 

@@ -1,5 +1,6 @@
 -- The first finding of a disk, step by step.
-use Rattle.std.proofs.Common.{◌≡◌, ◌≢◌, ◌<◌, ℕ, length, Option, Some, None, refl, sym, subst, arith, inl, inr}
+use Rattle.std.proofs.Common.{◌≡◌, ◌≢◌, ◌∙◌, ◌<◌, ℕ, length, Option, Some, None, refl, sym, subst, arith, inl, inr}
+use Rattle.std.specs.Prelude.{IsTrue}
 use Rattle.pt_sector.specs.Sectors.{Sectors, sector}
 use Rattle.pt_gpt.specs.Copies.{CopyWith, IsCopyFault, HasRoom}
 use Rattle.pt_gpt.proofs.Terms.{no_copy_lem}
@@ -22,11 +23,11 @@ use Rattle.pt_layout.specs.declared.sound.finding.Finding.TheVariants.{Protectiv
 use Rattle.pt_layout.specs.declared.sound.finding.Finding.TheVariants.{ForeignLabel}
 use Rattle.pt_layout.specs.Sound.{Sound, UnsoundIs}
 use Rattle.pt_layout.specs.Healthy.{IsBodyWhole, IsHealthy, HasCopies, IsFinding, IsBodyBroken}
-use Rattle.pt_layout.specs.inner.Surveys.{ForeignIs, HalfIs, HeadIs, BrokenIs, LayoutOf, PairIs}
+use Rattle.pt_layout.specs.inner.Surveys.{ForeignIs, TwinIs, HeadIs, BrokenIs, LayoutOf, PairIs}
 use Rattle.pt_layout.specs.Surveys.{HeadOf}
 use Rattle.pt_layout.specs.declared.health.Head.{Head}
 use Rattle.pt_layout.specs.declared.health.Head.TheVariants as head
-use Rattle.pt_layout.specs.declared.halves.Half.{Half}
+use Rattle.pt_layout.specs.declared.copies.Twin.{Twin}
 
 pub unsound_finding : (b : ℕ) (d : Sectors) (o : Layout) (f : Finding) → Denotes b d (Some o) → IsBodyWhole b d o.body
     → UnsoundIs b o (Some f) → IsFinding b d f
@@ -58,15 +59,6 @@ gpt_denotes b d t o is of = (
   subst (λ (y : Body). LabelsAre d (places_of b (length d) y) o.labels) (sym of.1) of.2,
 )
 
-pub primary_body : (b : ℕ) (d : Sectors) (h : Header) (t : Table) → (¬ IsMbrDisk d) → HasRoom b (length d)
-    → CopyWith b d Primary h t → BodyIs b d (Gpt t)
-primary_body b d h t plain room is = (plain, room, inl (record { room = room; head = h; stands = is }))
-
-pub backup_body : (b : ℕ) (d : Sectors) (e : CopyError) (h : Header) (t : Table) → (¬ IsMbrDisk d) → HasRoom b (length d)
-    → IsCopyFault b d Primary e → CopyWith b d Backup h t → BodyIs b d (Gpt t)
-backup_body b d e h t plain room fault is =
-    (plain, room, inr (no_copy_lem b d Primary e fault, record { room = room; head = h; stands = is }))
-
 -- what breaks the copies is found
 pub broken_finding : (b : ℕ) (d : Sectors) (o : Layout) (f : Finding) → Denotes b d (Some o) → IsBodyBroken b d o.body f → IsFinding b d f
 broken_finding b d o f denotes broken = by_body o.body refl broken
@@ -89,9 +81,9 @@ broken_finding b d o f denotes broken = by_body o.body refl broken
         by_finding (ForeignLabel p) is = absurd is
 
 -- two copies
-copies_of : (b : ℕ) (d : Sectors) (p q : Half) → HalfIs b d Primary p → HalfIs b d Backup q → p.table ≡ q.table
-    → HasCopies b d p.table p.header q.header
-copies_of b d p q x y same = record { first = x; second = subst (λ (t : Table). CopyWith b d Backup q.header t) (sym same) y }
+copies_of : (b : ℕ) (d : Sectors) (p : Header) (t : Table) (q : Twin) → CopyWith b d Primary p t → (y : TwinIs b d t q) → IsTrue q.same
+    → HasCopies b d t p y.0
+copies_of b d p t q x y same = record { first = x; second = subst (λ (u : Table). CopyWith b d Backup y.0 u) (y.2.2.0 same) y.2.1 }
 
 protected : (d : Sectors) (h : Head) → HeadOf d h → h ≡ head.Protected → IsProtective (length d) (sector d 0)
 protected d head.Mbr is e = absurd cc
@@ -104,40 +96,41 @@ unprotected d head.Mbr plain some is e = absurd (plain is)
 unprotected d head.Protected plain some is e = absurd (e refl)
 unprotected d head.Unprotected plain some is e = is.1 some
 
-pub pair_broken : (b : ℕ) (d : Sectors) (h : Head) (p q : Half) (f : Option Finding) → ¬ IsMbrDisk d → HeadOf d h
-    → HasRoom b (length d) → HalfIs b d Primary p → HalfIs b d Backup q → PairIs (length d) h p q f → BrokenIs b d (Gpt p.table) f
-pair_broken b d h p q None plain is room x y pair = record {
-  primary = p.header;
-  backup = q.header;
-  copies = copies_of b d p q x y pair.0;
-  alternates = record { first = pair.1; second = pair.2 };
+pub pair_broken : (b : ℕ) (d : Sectors) (h : Head) (p : Header) (t : Table) (q : Twin) (f : Option Finding) → ¬ IsMbrDisk d → HeadOf d h
+    → HasRoom b (length d) → CopyWith b d Primary p t → TwinIs b d t q
+    → PairIs (length d) h p q f → BrokenIs b d (Gpt t) f
+pair_broken b d h p t q None plain is room x y pair = record {
+  primary = p;
+  backup = y.0;
+  copies = copies_of b d p t q x y pair.0;
+  alternates = record { first = pair.1; second = sym y.1 ∙ pair.2 };
   protective = protected d h is pair.3;
 }
-pair_broken b d h p q (Some CopiesDiffer) plain is room x y pair = (
-  p.table,
-  q.table,
-  record { room = room; head = p.header; stands = x },
-  record { room = room; head = q.header; stands = y },
-  pair,
+pair_broken b d h p t q (Some CopiesDiffer) plain is room x y pair = (
+  t,
+  y.2.0,
+  record { room = room; head = p; stands = x },
+  record { room = room; head = y.0; stands = y.2.1 },
+  λ same. pair (y.2.2.1 (sym same)),
 )
-pair_broken b d h p q (Some (Alternate Primary)) plain is room x y pair = (p.header, q.header, copies_of b d p q x y pair.0, pair.1)
-pair_broken b d h p q (Some (Alternate Backup)) plain is room x y pair =
-    (p.header, q.header, copies_of b d p q x y pair.0, (pair.1, pair.2))
-pair_broken b d h p q (Some Protective) plain is room x y pair = (
-  p.header,
-  q.header,
-  copies_of b d p q x y pair.0,
-  record { first = pair.1; second = pair.2 },
+pair_broken b d h p t q (Some (Alternate Primary)) plain is room x y pair = (p, y.0, copies_of b d p t q x y pair.0, pair.1)
+pair_broken b d h p t q (Some (Alternate Backup)) plain is room x y pair =
+    (p, y.0, copies_of b d p t q x y pair.0, (pair.1, λ other. pair.2 (y.1 ∙ other)))
+pair_broken b d h p t q (Some Protective) plain is room x y pair = (
+  p,
+  y.0,
+  copies_of b d p t q x y pair.0,
+  record { first = pair.1; second = sym y.1 ∙ pair.2 },
   unprotected d h plain (omega (arith, room)) is pair.3,
 )
-pair_broken b d h p q (Some (NoTable e)) plain is room x y pair = absurd pair
-pair_broken b d h p q (Some (PrimaryCopy e)) plain is room x y pair = absurd pair
-pair_broken b d h p q (Some (BackupCopy e)) plain is room x y pair = absurd pair
-pair_broken b d h p q (Some (OutsideUsable s)) plain is room x y pair = absurd pair
-pair_broken b d h p q (Some (Overlap s t)) plain is room x y pair = absurd pair
-pair_broken b d h p q (Some (OnTable s t)) plain is room x y pair = absurd pair
-pair_broken b d h p q (Some (SameGuid i j)) plain is room x y pair = absurd pair
-pair_broken b d h p q (Some (ForeignLabel s)) plain is room x y pair = absurd pair
+pair_broken b d h p t q (Some (NoTable e)) plain is room x y pair = absurd pair
+pair_broken b d h p t q (Some (PrimaryCopy e)) plain is room x y pair = absurd pair
+pair_broken b d h p t q (Some (BackupCopy e)) plain is room x y pair = absurd pair
+pair_broken b d h p t q (Some (OutsideUsable s)) plain is room x y pair = absurd pair
+pair_broken b d h p t q (Some (Overlap s u)) plain is room x y pair = absurd pair
+pair_broken b d h p t q (Some (OnTable s u)) plain is room x y pair = absurd pair
+pair_broken b d h p t q (Some (SameGuid i j)) plain is room x y pair = absurd pair
+pair_broken b d h p t q (Some (ForeignLabel s)) plain is room x y pair = absurd pair
 
 -- no copy, or no room
 no_tables : (b : ℕ) (d : Sectors) → (¬ IsMbrDisk d) → ((t : Table) → HasRoom b (length d) → ¬ TableIs b d t) → Denotes b d None

@@ -16,7 +16,8 @@ use Rattle.pt_layout.specs.declared.sound.finding.Finding.{Finding}
 use Rattle.pt_layout.specs.declared.sound.finding.Finding.TheVariants.{OutsideUsable, OnTable, SameGuid}
 use Rattle.pt_layout.specs.declared.sound.finding.Finding.TheVariants as finding
 use Rattle.pt_path.specs.Paths.{rank}
-use Rattle.pt_members.specs.Members.{Exists, Holds, Group, groups_of, IsMember}
+use Rattle.pt_members.specs.Members.{Exists, Holds, Group, groups_of}
+use Rattle.pt_members.specs.Rows.{IsMember}
 use Rattle.pt_members.specs.Tables.{IsTable, IsEbr}
 
 -- ## Members that share sectors.

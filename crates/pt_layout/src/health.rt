@@ -7,9 +7,9 @@ ghost use Rattle.pt_sector.specs.Sectors.{IsSectorSize, Sectors, sector};
 ghost use Rattle.pt_recover.specs.Denotes.{RecordsAre};
 ghost use Rattle.pt_layout.specs.inner.Surveys.{HeadIs};
 ghost use Rattle.pt_layout.specs.Healthy.{VerdictIs, VerdictReads};
-ghost use Rattle.pt_layout.specs.Surveys.{IsSurvey};
+ghost use Rattle.pt_layout.specs.Surveys.{IsSurvey, Tells};
 
-use crate::sound::{Finding, Verdict};
+use crate::sound::Verdict;
 use crate::survey::{Survey, survey_disk};
 use pt_mbr::{Mbr, is_protective};
 use pt_recover::records_of;
@@ -72,16 +72,17 @@ pub(crate) fn read_first<const B: usize, D: Disk<B>>(disk: &mut D) -> Result<Fir
 
 // The verdict that a survey comes to.
 fn verdict(survey: Survey) -> Verdict
+    requires { Tells survey }
     ensures { (b : ℕ) → (d : Sectors) → IsSurvey b d survey → VerdictIs b d result }
 {
-    let Survey { found, finding, .. } = survey;
+    let (layout, finding, _) = survey.into_parts();
     match finding {
         Some(finding) => return Verdict::No(finding),
         None => {}
     }
-    match found {
-        Ok(layout) => Verdict::Yes(layout),
-        Err(reason) => Verdict::No(Finding::NoTable(reason)),
+    match layout {
+        Some(layout) => Verdict::Yes(layout),
+        None => unreachable!(),
     }
 }
 

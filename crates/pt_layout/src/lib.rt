@@ -1,8 +1,8 @@
 //! One reading of a disk: its layout, and the first thing that is wrong with it.
 #![tactic(auto)]
 
+mod copies;
 mod foreign;
-mod halves;
 mod health;
 pub mod sound;
 mod survey;
@@ -10,9 +10,8 @@ mod survey;
 pub use crate::sound::{Finding, Verdict, unsound};
 pub use health::{Head, verify};
 pub use pt_members::{
-    Body, Ebrs, Kind, Labelled, Labels, Layout, Member, Owner, Row, Rows, Slice, Source,
-    entry_slot, find_label, is_owned, is_slice_type, is_table, label_places, locate,
-    logical_number, numbered_slot, owner, part_slot, record_slot, slot_count,
+    Body, Ebrs, Kind, Labelled, Labels, Layout, Member, Owner, Row, Rows, Slice, Source, is_owned,
+    is_table, label_places, locate, owner,
 };
 pub use pt_path::{Path, parse_number, parse_path};
 pub use pt_recover::{NoTable, SideError, Trace, recover, recover_from, recover_traced};

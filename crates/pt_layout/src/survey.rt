@@ -1,40 +1,40 @@
 //! What one reading of a disk tells.
 
-ghost use Rattle.std.specs.Prelude.{◌≡◌, ◌<◌, ◌≤◌, ◌^◌, ◌↔◌, ℕ, IfOk, IfErr, OnOk, IsTrue, All, Some, Ok, Err, false};
+ghost use Rattle.std.specs.Prelude.{◌≡◌, ◌<◌, ◌≤◌, ◌^◌, ◌↔◌, ℕ, IfOk, IfErr, IfSome, OnOk, IsTrue, All, Some, None, false};
 ghost use Rattle.pt_sector.specs.Device.{Blames};
 ghost use Rattle.pt_sector.specs.Overlays.{OnlyReads, FailedIn, fault_of};
 ghost use Rattle.pt_sector.specs.Sectors.{IsSectorSize};
-ghost use Rattle.pt_gpt.specs.Copies.{HasCopy, HasRoom};
-ghost use Rattle.pt_gpt.specs.declared.table.Side.TheVariants.{Primary, Backup};
-ghost use Rattle.pt_recover.specs.Denotes.{BodyIs, Denotes, Reads, LabelsAre, IsMbr, IsMbrDisk, Numbers, IsTraceOf};
+ghost use Rattle.pt_gpt.specs.Copies.{HasRoom, AreEntries};
+ghost use Rattle.pt_recover.specs.Denotes.{Denotes, Reads, IsMbr, IsMbrDisk, Numbers, IsTraceOf, FoundCopyIs, told_reason};
+ghost use Rattle.pt_recover.specs.declared.error.Reason.{Reason};
 ghost use Rattle.pt_members.specs.Members.{places_of, place_of, IsPlace};
 ghost use Rattle.pt_recover.specs.Spans.{Adds};
 ghost use Rattle.pt_members.specs.declared.layout.Body.TheVariants.{Gpt};
-ghost use Rattle.pt_layout.specs.inner.Surveys.{HalfIs, HalvesAre, LayoutOf, PairIs, BrokenIs, ArePlaces, IsBodyTrace, FailsAs};
-ghost use Rattle.pt_layout.specs.inner.Surveys.{IsNothingOf, nothing_of, ChosenIs, TableStands, chosen_of};
+ghost use Rattle.pt_layout.specs.inner.Surveys.{LayoutOf, BrokenIs, IsBodyTrace, nothing_of};
 ghost use Rattle.pt_layout.specs.Healthy.{IsBodyWhole, VerdictReads};
-ghost use Rattle.pt_layout.specs.Surveys.{HeadOf, FindingIs, IsSurvey};
+ghost use Rattle.pt_layout.specs.Surveys.{HeadOf, FindingIs, IsSurvey, Tells};
+ghost use Rattle.pt_layout.specs.declared.sound.finding.Finding.TheVariants as finding;
 
+use crate::copies::broken_copies;
 use crate::foreign::first_foreign;
-use crate::halves::{Half, Halves, read_halves};
 use crate::health::{Head, read_first};
 use crate::sound::{Finding, unsound};
-use pt_gpt::{LastArray, Side, Table, has_room};
+use pt_gpt::{LastArray, Table, has_room};
 use pt_mbr::Mbr;
-use pt_members::{Body, Labels, Layout, Slice, label_places};
+use pt_members::{Body, Layout, Slice, label_places};
 use pt_path::Path;
-use pt_recover::{NoTable, Trace, recover_known, traced_labels};
+use pt_recover::{FoundCopy, NoTable, Reason, Trace, read_either, read_layout, traced_labels};
 use pt_sector::{Disk, Failure, ReadCache, Room};
 use std::alloc::{AllocError, Global};
 
 /// What one reading of a disk tells.
-#[derive(Drop)]
 pub struct Survey {
     /// What sector 0 says of the disk: of one with no sectors `Unprotected`.
     pub head: Head,
-    /// The layout that the disk denotes, or why it denotes nothing: never `Device` or `Memory`.
-    pub found: Result<Layout, NoTable>,
-    /// The first thing that is wrong with the disk, none where it is healthy.
+    /// The layout that the disk denotes, none where it denotes nothing.
+    pub layout: Option<Layout>,
+    /// The first thing that is wrong with the disk, none where it is healthy. Of a disk that denotes nothing it is
+    /// `NoTable` of a [`Reason`].
     pub finding: Option<Finding>,
     /// Whether the primary copy of a GPT exists. On an MBR disk, and on one with no room for a GPT, it is false.
     pub primary: bool,
@@ -45,14 +45,58 @@ pub struct Survey {
     pub trace: Trace,
 }
 
+// By hand: a derived drop stands in each function at each of its exits, and is proved there.
+impl Drop for Survey {
+    fn drop(self) {
+        let Survey {
+            head: _,
+            layout: _,
+            finding: _,
+            primary: _,
+            guarded: _,
+            trace: _,
+        } = self;
+    }
+}
+
+impl Survey {
+    /// Why the disk denotes nothing, where it does: a [`Reason`], so never `Device` or `Memory`.
+    pub fn reason(&self) -> NoTable
+        requires tells { Tells self.now }
+        requires none { self.now.layout ≡ None }
+        ensures why { self.now.finding ≡ Some (finding.NoTable result) }
+        ensures told { (r : Reason) × (result ≡ told_reason r) }
+    {
+        match self.finding {
+            Some(Finding::NoTable(reason)) => reason,
+            _ => unreachable!(),
+        }
+    }
+
+    /// What the disk denotes, what is wrong with it, and the sectors that decide what it denotes.
+    pub fn into_parts(self) -> (Option<Layout>, Option<Finding>, Trace)
+        ensures { result ≡ (self.layout, self.finding, self.trace) }
+    {
+        let Survey {
+            head: _,
+            layout,
+            finding,
+            primary: _,
+            guarded: _,
+            trace,
+        } = self;
+        (layout, finding, trace)
+    }
+}
+
 // The survey of a disk that denotes nothing.
-fn nothing(head: Head, reason: NoTable, guarded: Trace, trace: Trace) -> Survey
+fn nothing(head: Head, reason: Reason, guarded: Trace, trace: Trace) -> Survey
     ensures { result ≡ nothing_of head reason guarded trace }
 {
     Survey {
         head,
-        found: Err(reason),
-        finding: Some(Finding::NoTable(reason)),
+        layout: None,
+        finding: Some(Finding::NoTable(NoTable::from(reason))),
         primary: false,
         guarded,
         trace,
@@ -71,7 +115,7 @@ fn judge<const B: usize, D: Disk<B>>(
     ensures same { OnlyReads D.Disk disk.old disk.new }
     ensures blames { Blames fault_of result (D.faults disk.old) (D.faults disk.new) }
     ensures place { D.tells → IfErr result (FailedIn (Reads B (D.told disk.old).seen)) }
-    ensures ok { D.tells → IfOk result (λ f. FindingIs B (D.told disk.old).seen (Ok layout.now) f) }
+    ensures ok { D.tells → IfOk result (λ f. FindingIs B (D.told disk.old).seen (Some layout.now) f) }
 {
     let broken = unsound::<B>(alloc, layout)?;
     match broken {
@@ -98,7 +142,7 @@ fn judge_after<const B: usize, D: Disk<B>>(
     ensures same { OnlyReads D.Disk disk.old disk.new }
     ensures blames { Blames fault_of result (D.faults disk.old) (D.faults disk.new) }
     ensures place { D.tells → IfErr result (FailedIn (Reads B (D.told disk.old).seen)) }
-    ensures ok { D.tells → IfOk result (λ f. FindingIs B (D.told disk.old).seen (Ok layout.now) f) }
+    ensures ok { D.tells → IfOk result (λ f. FindingIs B (D.told disk.old).seen (Some layout.now) f) }
 {
     match broken {
         Some(finding) => Ok(Some(finding)),
@@ -106,262 +150,137 @@ fn judge_after<const B: usize, D: Disk<B>>(
     }
 }
 
-// The label places of some slices.
-fn places_among(alloc: Global, slices: &[Slice]) -> Result<Trace, AllocError>
+// Adds the label places of some slices.
+fn add_places(slices: &[Slice], places: &mut Trace) -> Result<(), AllocError>
     requires { All (λ p. place_of p < 2 ^ 64) slices.now }
-    ensures { IfOk result (ArePlaces slices.now) }
+    ensures { OnOk result (Adds places.old places.new (IsPlace slices.now)) }
 {
-    let mut places = Trace::new(alloc);
     for k in 0..slices.len() {
         places.add_one(slices[k].first + 1)?;
     }
-    Ok(places)
+    Ok(())
 }
 
-/// A layout with its label places.
-#[derive(Drop)]
-struct Placed {
-    layout: Layout,
-    places: Trace,
-}
-
-/// The labels of some slices, with their places.
-#[derive(Drop)]
-struct Marks {
-    labels: Labels,
-    places: Trace,
-}
-
-// The labels of some slices on the disk, and their places added to the trace.
-fn read_marks<const B: usize, D: Disk<B>>(
-    alloc: Global,
-    disk: &mut D,
-    slices: &[Slice],
-    trace: &mut Trace,
-) -> Result<Marks, Failure>
-    requires size { IsSectorSize B }
-    requires small { All (λ p. place_of p < 2 ^ 64) slices.now }
-    requires within { All (λ p. place_of p < D.count disk.old) slices.now }
-    ensures same { OnlyReads D.Disk disk.old disk.new }
-    ensures blames { Blames fault_of result (D.faults disk.old) (D.faults disk.new) }
-    ensures place { IfErr result (FailedIn (IsPlace slices.now)) }
-    ensures places { IfOk result (λ m. ArePlaces slices.now m.places) }
-    ensures ok { D.tells → IfOk result (λ m. LabelsAre (D.told disk.old).seen slices.now m.labels) }
-    ensures traced { OnOk result (Adds trace.old trace.new (IsPlace slices.now)) }
-{
-    let places = places_among(alloc, slices)?;
-    let labels = traced_labels(alloc, disk, slices, trace)?;
-    Ok(Marks { labels, places })
-}
-
-// The table's GPT with the disk's labels, and their places added to the trace.
+// The table's GPT with the disk's labels. Their places are added to those that are guarded and to the trace.
 fn with_labels<const B: usize, D: Disk<B>>(
     alloc: Global,
     disk: &mut D,
     table: Table,
+    guarded: &mut Trace,
     trace: &mut Trace,
-) -> Result<Placed, Failure>
+) -> Result<Layout, Failure>
     requires size { IsSectorSize B }
     ensures same { OnlyReads D.Disk disk.old disk.new }
     ensures blames { Blames fault_of result (D.faults disk.old) (D.faults disk.new) }
-    ensures place { D.tells → IfErr result (FailedIn (IsPlace (places_of B (D.count disk.old) (Gpt table)))) }
-    ensures body { IfOk result (λ p. p.layout.body ≡ Gpt table) }
-    ensures places { IfOk result (λ p. ArePlaces (places_of B (D.count disk.old) (Gpt table)) p.places) }
-    ensures ok { D.tells → IfOk result (λ p. LayoutOf B (D.told disk.old).seen table p.layout) }
+    ensures place { IfErr result (FailedIn (IsPlace (places_of B (D.count disk.old) (Gpt table)))) }
+    ensures body { IfOk result (λ o. o.body ≡ Gpt table) }
+    ensures ok { D.tells → IfOk result (λ o. LayoutOf B (D.told disk.old).seen table o) }
+    ensures guarded { OnOk result (Adds guarded.old guarded.new (IsPlace (places_of B (D.count disk.old) (Gpt table)))) }
     ensures traced { OnOk result (Adds trace.old trace.new (IsPlace (places_of B (D.count disk.old) (Gpt table)))) }
 {
     let sectors = disk.sectors();
     let body = Body::Gpt(table);
     let slices = label_places::<B>(alloc, sectors, &body)?;
-    let marks = read_marks(alloc, disk, &slices, trace)?;
-    let layout = Layout {
+    add_places(&slices, guarded)?;
+    let labels = traced_labels(alloc, disk, &slices, trace)?;
+    Ok(Layout {
         sectors,
         body,
-        labels: marks.labels,
-    };
-    Ok(Placed {
-        layout,
-        places: marks.places,
+        labels,
     })
 }
 
-// The first thing that is wrong with the two copies, and with sector 0.
-fn broken_pair(sectors: u64, head: Head, primary: &Half, backup: &Half) -> Option<Finding>
-    requires { 1 ≤ sectors }
-    ensures { PairIs sectors head primary.now backup.now result }
-{
-    if !primary.table.same(&backup.table) {
-        return Some(Finding::CopiesDiffer);
-    }
-    if primary.header.alternate != sectors - 1 {
-        return Some(Finding::Alternate(Side::Primary));
-    }
-    if backup.header.alternate != 1 {
-        return Some(Finding::Alternate(Side::Backup));
-    }
-    match head {
-        Head::Protected => None,
-        _ => Some(Finding::Protective),
-    }
-}
-
-/// The table that a GPT disk denotes, whether it is the primary copy's, and what is wrong with the copies, or nothing.
-#[derive(Drop)]
-struct Chosen {
-    table: Table,
-    primary: bool,
-    broken: Option<Finding>,
-}
-
-// The table of the two halves, or why there is none.
-fn choose(sectors: u64, head: Head, halves: Halves) -> Result<Chosen, NoTable>
-    requires { 1 ≤ sectors }
-    ensures { ChosenIs sectors head halves result }
-{
-    match halves {
-        Halves::Both(primary, backup) => {
-            let broken = broken_pair(sectors, head, &primary, &backup);
-            Ok(choice(primary, true, broken))
-        }
-        Halves::OnlyPrimary(primary, e) => {
-            let broken = Some(Finding::BackupCopy(e));
-            Ok(choice(primary, true, broken))
-        }
-        Halves::OnlyBackup(e, backup) => {
-            let broken = Some(Finding::PrimaryCopy(e));
-            Ok(choice(backup, false, broken))
-        }
-        Halves::Neither(e, f) => Err(NoTable::NoCopy(e, f)),
-    }
-}
-
-fn choice(half: Half, primary: bool, broken: Option<Finding>) -> Chosen
-    ensures { result ≡ chosen_of half primary broken }
-{
-    Chosen {
-        table: half.table,
-        primary,
-        broken,
-    }
-}
-
-/// A layout with its label places, and the first thing that is wrong with the disk.
-#[derive(Drop)]
-struct Judged {
-    layout: Layout,
-    places: Trace,
-    finding: Option<Finding>,
-}
-
-// The layout of a GPT disk that denotes this table, judged after the finding on the copies, if any. Its label places are added to the
-// trace.
-fn judge_labelled<const B: usize, D: Disk<B>>(
-    alloc: Global,
-    disk: &mut D,
-    table: Table,
-    broken: Option<Finding>,
-    trace: &mut Trace,
-) -> Result<Judged, Failure>
-    requires size { IsSectorSize B }
-    requires body { D.tells → BodyIs B (D.told disk.old).seen (Gpt table) }
-    requires broken { D.tells → BrokenIs B (D.told disk.old).seen (Gpt table) broken }
-    ensures same { OnlyReads D.Disk disk.old disk.new }
-    ensures blames { Blames fault_of result (D.faults disk.old) (D.faults disk.new) }
-    ensures place { D.tells → IfErr result (FailedIn (Reads B (D.told disk.old).seen)) }
-    ensures body { IfOk result (λ j. j.layout.body ≡ Gpt table) }
-    ensures places { IfOk result (λ j. ArePlaces (places_of B (D.count disk.old) (Gpt table)) j.places) }
-    ensures ok { D.tells → IfOk result (λ j. LayoutOf B (D.told disk.old).seen table j.layout) }
-    ensures finding { D.tells → IfOk result (λ j. FindingIs B (D.told disk.old).seen (Ok j.layout) j.finding) }
-    ensures traced { OnOk result (Adds trace.old trace.new (IsPlace (places_of B (D.count disk.old) (Gpt table)))) }
-{
-    let placed = with_labels(alloc, disk, table, trace)?;
-    let finding = judge_after(alloc, disk, &placed.layout, broken)?;
-    Ok(Judged {
-        layout: placed.layout,
-        places: placed.places,
-        finding,
-    })
-}
-
-// As `judge_labelled`; the disk is asked for each label place once.
-fn judge_table<const B: usize, D: Disk<B>>(
-    alloc: Global,
-    disk: &mut D,
-    table: Table,
-    broken: Option<Finding>,
-    trace: &mut Trace,
-) -> Result<Judged, Failure>
-    requires size { IsSectorSize B }
-    requires body { D.tells → BodyIs B (D.told disk.old).seen (Gpt table) }
-    requires broken { D.tells → BrokenIs B (D.told disk.old).seen (Gpt table) broken }
-    ensures same { OnlyReads D.Disk disk.old disk.new }
-    ensures blames { Blames fault_of result (D.faults disk.old) (D.faults disk.new) }
-    ensures place { D.tells → IfErr result (FailedIn (Reads B (D.told disk.old).seen)) }
-    ensures body { IfOk result (λ j. j.layout.body ≡ Gpt table) }
-    ensures places { IfOk result (λ j. ArePlaces (places_of B (D.count disk.old) (Gpt table)) j.places) }
-    ensures ok { D.tells → IfOk result (λ j. LayoutOf B (D.told disk.old).seen table j.layout) }
-    ensures finding { D.tells → IfOk result (λ j. FindingIs B (D.told disk.old).seen (Ok j.layout) j.finding) }
-    ensures traced { OnOk result (Adds trace.old trace.new (IsPlace (places_of B (D.count disk.old) (Gpt table)))) }
-{
-    let room = Room::for_cache(alloc)?;
-    let mut cache = ReadCache::new(disk, room);
-    judge_labelled(alloc, &mut cache, table, broken, trace)
-}
-
-// The survey of a GPT disk that denotes the chosen table. The trace has the sectors that decide the table.
-fn survey_table<const B: usize, D: Disk<B>>(
+// The survey of a GPT disk whose table is that of this copy, after the finding on the copies, if any. The trace has the sectors that
+// decide the table.
+fn survey_labelled<const B: usize, D: Disk<B>>(
     alloc: Global,
     disk: &mut D,
     head: Head,
-    chosen: Chosen,
+    found: FoundCopy,
+    broken: Option<Finding>,
     mut trace: Trace,
 ) -> Result<Survey, Failure>
     requires size { IsSectorSize B }
+    requires room { HasRoom B (D.count disk.old) }
     requires head { D.tells → HeadOf (D.told disk.old).seen head }
-    requires chosen { D.tells → TableStands B (D.told disk.old).seen chosen }
+    requires plain { D.tells → ¬ IsMbrDisk (D.told disk.old).seen }
+    requires found { D.tells → FoundCopyIs B (D.told disk.old).seen found }
+    requires broken { D.tells → BrokenIs B (D.told disk.old).seen (Gpt found.table) broken }
     requires traced { D.tells → IsBodyTrace B (D.told disk.old).seen trace }
     ensures same { OnlyReads D.Disk disk.old disk.new }
     ensures blames { Blames fault_of result (D.faults disk.old) (D.faults disk.new) }
     ensures place { D.tells → IfErr result (FailedIn (VerdictReads B (D.told disk.old).seen)) }
-    ensures numbers { IfOk result (λ x. IfOk x.found Numbers) }
+    ensures numbers { IfOk result (λ x. IfSome x.layout Numbers) }
+    ensures tells { IfOk result Tells }
     ensures ok { D.tells → IfOk result (IsSurvey B (D.told disk.old).seen) }
 {
-    let primary = chosen.primary;
-    let judged = judge_table(alloc, disk, chosen.table, chosen.broken, &mut trace)?;
+    let primary = found.no_primary.is_none();
+    let mut guarded = Trace::new(alloc);
+    let layout = with_labels(alloc, disk, found.table, &mut guarded, &mut trace)?;
+    let finding = judge_after(alloc, disk, &layout, broken)?;
     Ok(Survey {
         head,
-        found: Ok(judged.layout),
-        finding: judged.finding,
+        layout: Some(layout),
+        finding,
         primary,
-        guarded: judged.places,
+        guarded,
         trace,
     })
 }
 
-// The survey of a disk with room for a GPT that isn't an MBR disk. The trace has the sectors that decide its table.
-fn survey_halves<const B: usize, D: Disk<B>>(
+// As `survey_labelled`; the disk is asked for each label place once.
+fn survey_table<const B: usize, D: Disk<B>>(
     alloc: Global,
     disk: &mut D,
     head: Head,
-    halves: Halves,
+    found: FoundCopy,
+    broken: Option<Finding>,
     trace: Trace,
 ) -> Result<Survey, Failure>
     requires size { IsSectorSize B }
     requires room { HasRoom B (D.count disk.old) }
     requires head { D.tells → HeadOf (D.told disk.old).seen head }
     requires plain { D.tells → ¬ IsMbrDisk (D.told disk.old).seen }
-    requires halves { D.tells → HalvesAre B (D.told disk.old).seen halves }
+    requires found { D.tells → FoundCopyIs B (D.told disk.old).seen found }
+    requires broken { D.tells → BrokenIs B (D.told disk.old).seen (Gpt found.table) broken }
     requires traced { D.tells → IsBodyTrace B (D.told disk.old).seen trace }
     ensures same { OnlyReads D.Disk disk.old disk.new }
     ensures blames { Blames fault_of result (D.faults disk.old) (D.faults disk.new) }
     ensures place { D.tells → IfErr result (FailedIn (VerdictReads B (D.told disk.old).seen)) }
-    ensures numbers { IfOk result (λ x. IfOk x.found Numbers) }
+    ensures numbers { IfOk result (λ x. IfSome x.layout Numbers) }
+    ensures tells { IfOk result Tells }
     ensures ok { D.tells → IfOk result (IsSurvey B (D.told disk.old).seen) }
 {
-    match choose(disk.sectors(), head, halves) {
-        Ok(chosen) => survey_table(alloc, disk, head, chosen, trace),
-        Err(reason) => Ok(nothing(head, reason, Trace::new(alloc), trace)),
-    }
+    let room = Room::for_cache(alloc)?;
+    let mut cache = ReadCache::new(disk, room);
+    survey_labelled(alloc, &mut cache, head, found, broken, trace)
+}
+
+// The survey of a GPT disk whose table is that of this copy, decoded from the last array. The trace has the sectors that decide the table.
+fn survey_copies<const B: usize, D: Disk<B>>(
+    alloc: Global,
+    disk: &mut D,
+    head: Head,
+    found: FoundCopy,
+    trace: Trace,
+    last: &mut LastArray,
+) -> Result<Survey, Failure>
+    requires size { IsSectorSize B }
+    requires room { HasRoom B (D.count disk.old) }
+    requires head { D.tells → HeadOf (D.told disk.old).seen head }
+    requires plain { D.tells → ¬ IsMbrDisk (D.told disk.old).seen }
+    requires found { D.tells → FoundCopyIs B (D.told disk.old).seen found }
+    requires last { AreEntries found.table.entries last.old }
+    requires traced { D.tells → IsBodyTrace B (D.told disk.old).seen trace }
+    ensures same { OnlyReads D.Disk disk.old disk.new }
+    ensures blames { Blames fault_of result (D.faults disk.old) (D.faults disk.new) }
+    ensures place { D.tells → IfErr result (FailedIn (VerdictReads B (D.told disk.old).seen)) }
+    ensures numbers { IfOk result (λ x. IfSome x.layout Numbers) }
+    ensures tells { IfOk result Tells }
+    ensures ok { D.tells → IfOk result (IsSurvey B (D.told disk.old).seen) }
+{
+    let broken = broken_copies(alloc, disk, head, &found, last)?;
+    survey_table(alloc, disk, head, found, broken, trace)
 }
 
 // The survey of a disk that has sectors and isn't an MBR disk.
@@ -378,18 +297,24 @@ fn survey_gpt<const B: usize, D: Disk<B>>(
     ensures same { OnlyReads D.Disk disk.old disk.new }
     ensures blames { Blames fault_of result (D.faults disk.old) (D.faults disk.new) }
     ensures place { D.tells → IfErr result (FailedIn (VerdictReads B (D.told disk.old).seen)) }
-    ensures numbers { IfOk result (λ x. IfOk x.found Numbers) }
+    ensures numbers { IfOk result (λ x. IfSome x.layout Numbers) }
+    ensures tells { IfOk result Tells }
     ensures ok { D.tells → IfOk result (IsSurvey B (D.told disk.old).seen) }
 {
     let mut trace = Trace::new(alloc);
     trace.add_one(0)?;
     let sectors = disk.sectors();
     if !has_room::<B>(sectors) {
-        let reason = NoTable::TooSmall;
+        let reason = Reason::TooSmall;
         return Ok(nothing(head, reason, Trace::new(alloc), trace));
     }
-    let halves = read_halves(alloc, disk, &mut trace, last)?;
-    survey_halves(alloc, disk, head, halves, trace)
+    match read_either(alloc, disk, &mut trace, last)? {
+        Ok(found) => survey_copies(alloc, disk, head, found, trace, last),
+        Err((primary, backup)) => {
+            let reason = Reason::NoCopy(primary, backup);
+            Ok(nothing(head, reason, Trace::new(alloc), trace))
+        }
+    }
 }
 
 // The survey of an MBR disk that denotes this layout, read with this trace.
@@ -407,31 +332,20 @@ fn survey_layout<const B: usize, D: Disk<B>>(
     ensures same { OnlyReads D.Disk disk.old disk.new }
     ensures blames { Blames fault_of result (D.faults disk.old) (D.faults disk.new) }
     ensures place { D.tells → IfErr result (FailedIn (Reads B (D.told disk.old).seen)) }
-    ensures numbers { IfOk result (λ x. IfOk x.found Numbers) }
+    ensures numbers { IfOk result (λ x. IfSome x.layout Numbers) }
+    ensures tells { IfOk result Tells }
     ensures ok { D.tells → IfOk result (IsSurvey B (D.told disk.old).seen) }
 {
     let finding = judge(alloc, disk, &layout)?;
     let guarded = trace.copy(alloc)?;
     Ok(Survey {
         head: Head::Mbr,
-        found: Ok(layout),
+        layout: Some(layout),
         finding,
         primary: false,
         guarded,
         trace,
     })
-}
-
-// The survey of an MBR disk that denotes nothing for this reason, if the reason is no failure.
-fn without_layout(alloc: Global, reason: NoTable, trace: Trace) -> Result<Survey, Failure>
-    ensures err { IfErr result (FailsAs reason) }
-    ensures ok { IfOk result (IsNothingOf reason trace) }
-{
-    if let Some(failure) = reason.failure() {
-        return Err(failure);
-    }
-    let guarded = trace.copy(alloc)?;
-    Ok(nothing(Head::Mbr, reason, guarded, trace))
 }
 
 // The survey of an MBR disk with these records.
@@ -445,13 +359,18 @@ fn survey_records<const B: usize, D: Disk<B>>(
     ensures same { OnlyReads D.Disk disk.old disk.new }
     ensures blames { Blames fault_of result (D.faults disk.old) (D.faults disk.new) }
     ensures place { D.tells → IfErr result (FailedIn (VerdictReads B (D.told disk.old).seen)) }
-    ensures numbers { IfOk result (λ x. IfOk x.found Numbers) }
+    ensures numbers { IfOk result (λ x. IfSome x.layout Numbers) }
+    ensures tells { IfOk result Tells }
     ensures ok { D.tells → IfOk result (IsSurvey B (D.told disk.old).seen) }
 {
-    let (found, trace) = recover_known(alloc, disk, Some(mbr));
+    let mut last = LastArray::new(alloc);
+    let (found, trace) = read_layout(alloc, disk, &Some(mbr), &mut last)?;
     match found {
         Ok(layout) => survey_layout(alloc, disk, layout, trace),
-        Err(reason) => without_layout(alloc, reason, trace),
+        Err(reason) => {
+            let guarded = trace.copy(alloc)?;
+            Ok(nothing(Head::Mbr, reason, guarded, trace))
+        }
     }
 }
 
@@ -466,7 +385,8 @@ fn survey_mbr<const B: usize, D: Disk<B>>(
     ensures same { OnlyReads D.Disk disk.old disk.new }
     ensures blames { Blames fault_of result (D.faults disk.old) (D.faults disk.new) }
     ensures place { D.tells → IfErr result (FailedIn (VerdictReads B (D.told disk.old).seen)) }
-    ensures numbers { IfOk result (λ x. IfOk x.found Numbers) }
+    ensures numbers { IfOk result (λ x. IfSome x.layout Numbers) }
+    ensures tells { IfOk result Tells }
     ensures ok { D.tells → IfOk result (IsSurvey B (D.told disk.old).seen) }
 {
     let room = Room::for_cache(alloc)?;
@@ -486,7 +406,8 @@ pub fn survey_disk<const B: usize, D: Disk<B>>(
     ensures same { OnlyReads D.Disk disk.old disk.new }
     ensures blames { Blames fault_of result (D.faults disk.old) (D.faults disk.new) }
     ensures place { D.tells → IfErr result (FailedIn (VerdictReads B (D.told disk.old).seen)) }
-    ensures numbers { IfOk result (λ x. IfOk x.found Numbers) }
+    ensures numbers { IfOk result (λ x. IfSome x.layout Numbers) }
+    ensures tells { IfOk result Tells }
     ensures ok { D.tells → IfOk result (IsSurvey B (D.told disk.old).seen) }
 {
     let mut last = LastArray::new(alloc);
@@ -503,11 +424,12 @@ pub fn survey_after<const B: usize, D: Disk<B>>(
     ensures same { OnlyReads D.Disk disk.old disk.new }
     ensures blames { Blames fault_of result (D.faults disk.old) (D.faults disk.new) }
     ensures place { D.tells → IfErr result (FailedIn (VerdictReads B (D.told disk.old).seen)) }
-    ensures numbers { IfOk result (λ x. IfOk x.found Numbers) }
+    ensures numbers { IfOk result (λ x. IfSome x.layout Numbers) }
+    ensures tells { IfOk result Tells }
     ensures ok { D.tells → IfOk result (IsSurvey B (D.told disk.old).seen) }
 {
     if disk.sectors() == 0 {
-        let reason = NoTable::TooSmall;
+        let reason = Reason::TooSmall;
         let (guarded, trace) = (Trace::new(alloc), Trace::new(alloc));
         return Ok(nothing(Head::Unprotected, reason, guarded, trace));
     }

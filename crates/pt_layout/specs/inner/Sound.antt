@@ -1,5 +1,5 @@
 -- When a layout is sound: what private contracts cite.
-use Rattle.std.specs.Prelude.{◌≤◌, List, length, Option, Some, None, if◌then◌else◌, nat_lt, ℕ, Bool, true, false, [], ◌∷◌, ◌+◌, ◌*◌, ◌%◌}
+use Rattle.std.specs.Prelude.{◌≤◌, List, length, Option, Some, None, ℕ, Bool, true, false, [], ◌∷◌, ◌+◌, ◌*◌, ◌%◌}
 use Rattle.std.specs.Prelude.{slice_index_or, ◌≡◌, ◌≢◌, ◌<◌, All, ◌⊎◌}
 use Rattle.std.specs.List.{AllAdjacentBelow}
 use Rattle.pt_members.specs.declared.member.Member.{Member}
@@ -33,20 +33,11 @@ abbrev pub FirstOverlapIs : List Member → Option Overlap → Type 0
 FirstOverlapIs members None = IsApart members
 FirstOverlapIs members (Some o) = IsFirstOverlap members o
 
--- ## Steps over the records and the members.
+-- ## Steps over the records.
 
 abbrev pub has_any : List Record → Bool
 has_any [] = false
 has_any (r ∷ rs) = true
-
--- what the member in a place holds
-abbrev pub held_by : (Member → List Group) → Option Member → List Group
-held_by f None = []
-held_by f (Some m) = f m
-
--- what stands in place k, where that isn't before a first one
-abbrev pub from_on : ℕ → ℕ → Option Member → Option Member
-from_on first k m = if nat_lt k first then None else m
 
 -- ## Numbers of entries. Only entries of one number can have one unique GUID.
 

@@ -1,19 +1,16 @@
 //! The groups of siblings of a layout.
 
-ghost use Rattle.std.specs.Prelude.{◌≡◌, ◌+◌, ◌<◌, ◌≤◌, ◌^◌, ◌++◌, ◌↔◌, IsTrue, IfOk, OnOk, IfSome, length, take, slice_range};
-ghost use Rattle.std.specs.Prelude.{slice_index_or, option_to_list, flat_map, Some, None};
+ghost use Rattle.std.specs.Prelude.{◌≡◌, ◌<◌, ◌≤◌, ◌+◌, ◌^◌, ◌++◌, ◌↔◌, IsTrue, IfOk, OnOk, Some, count_by, flat_map};
+ghost use Rattle.std.specs.Prelude.{is_some, length, option_to_list};
 ghost use Rattle.pt_mbr.specs.Records.{extended_of};
-ghost use Rattle.pt_layout.specs.inner.Sound.{has_any, held_by, from_on};
-ghost use Rattle.pt_members.specs.Members.{number_at, Group as GroupValue, group_of, groups_of, group_in, top_group, strays, slots, tops};
-ghost use Rattle.pt_members.specs.Members.{logicals, parts, parts_in, present};
+ghost use Rattle.pt_layout.specs.inner.Sound.{has_any};
+ghost use Rattle.pt_members.specs.Members.{Group as GroupValue, group_of, groups_of, group_in, top_group, strays, slots, tops};
+ghost use Rattle.pt_members.specs.Members.{logicals as logicals_spec, parts, parts_in, present};
 ghost use Rattle.pt_layout.specs.Sound.{LiesInside};
 
 use pt_bsd::{Label, RESERVED};
-use pt_mbr::{Extended, FIRST_LOGICAL, Record, extended_of};
-use pt_members::{
-    Body, Kind, Layout, Member, find_label, next_number, numbered_slot, part_slot, slot_count,
-    top_count,
-};
+use pt_mbr::{Extended, Record, extended_of};
+use pt_members::{Body, Kind, LETTERS, Layout, Member, find_label, part_slot};
 use std::alloc::{AllocError, Global};
 use std::marker::Model;
 
@@ -32,10 +29,17 @@ impl Model for Siblings {
 }
 
 impl Siblings {
-    fn new(low: u128, high: u128, members: Vec<Member>) -> Siblings
-        ensures { result ≡ group_of low high members.items }
+    // Some members, and the sectors that are usable to them.
+    fn of(alloc: Global, low: u128, high: u128, members: &[Member]) -> Result<Siblings, AllocError>
+        ensures { IfOk result (λ g. g ≡ group_of low high members.now) }
     {
-        Siblings { low, high, members }
+        let mut own = Vec::new(alloc);
+        own.extend_from_slice(members)?;
+        Ok(Siblings {
+            low,
+            high,
+            members: own,
+        })
     }
 
     /// Their number.
@@ -60,6 +64,31 @@ impl Siblings {
     }
 }
 
+// The members in a table's own places: the records or entries, and behind them the logical partitions.
+fn members<const B: usize>(alloc: Global, body: &Body) -> Result<Vec<Member>, AllocError>
+    ensures { IfOk result (λ v. v.items ≡ present (slots B body.now)) }
+{
+    body.members::<B>().collect(alloc)
+}
+
+fn used(records: &[Option<Record>; 4]) -> usize
+    ensures { result ≡ count_by is_some «records».now }
+{
+    records.iter().filter(|record| record.is_some()).count()
+}
+
+// How many of them are records or entries.
+#[tactic(auto, using(crate::proofs::Presence::used_records, crate::proofs::Presence::all_entries))]
+fn top_count<const B: usize>(body: &Body, members: &[Member]) -> usize
+    requires { members.now ≡ present (slots B body.now) }
+    ensures { result ≡ length (present (tops B body.now)) }
+{
+    match body {
+        Body::Mbr { records, .. } => used(records),
+        Body::Gpt(_) => members.len(),
+    }
+}
+
 fn push_member(members: &mut Vec<Member>, m: Option<Member>) -> Result<(), AllocError>
     ensures { OnOk result (members.new.items ≡ members.old.items ++ option_to_list m) }
 {
@@ -69,59 +98,13 @@ fn push_member(members: &mut Vec<Member>, m: Option<Member>) -> Result<(), Alloc
     Ok(())
 }
 
-// The member in a place from one on.
-fn slot_from<const B: usize>(body: &Body, from: usize, k: usize, number: u64) -> Option<Member>
-    requires within { k < length (slots B body.now) }
-    requires number { number ≡ number_at body.now k }
-    ensures { result ≡ from_on from k (slice_index_or (slots B body.now) k None) }
-{
-    if k < from {
-        return None;
-    }
-    numbered_slot::<B>(body, k, number)
-}
-
-// The members in the places from one up to another.
-fn members_from<const B: usize>(
-    alloc: Global,
-    body: &Body,
-    from: usize,
-    to: usize,
-) -> Result<Vec<Member>, AllocError>
-    requires order { from ≤ to }
-    requires within { to ≤ length (slots B body.now) }
-    ensures { IfOk result (λ v. v.items ≡ present (slice_range (slots B body.now) from to)) }
-{
-    let mut members = Vec::new(alloc);
-    let mut number = FIRST_LOGICAL;
-    for k in 0..to {
-        push_member(&mut members, slot_from::<B>(body, from, k, number))?;
-        number = next_number::<B>(body, k, number);
-    }
-    Ok(members)
-}
-
-#[tactic(auto, using(crate::proofs::Presence::range_tops))]
-fn top_members<const B: usize>(alloc: Global, body: &Body) -> Result<Vec<Member>, AllocError>
-    ensures { IfOk result (λ v. v.items ≡ present (tops B body.now)) }
-{
-    members_from::<B>(alloc, body, 0, top_count::<B>(body))
-}
-
-#[tactic(auto, using(crate::proofs::Presence::range_logicals))]
-fn logical_members<const B: usize>(alloc: Global, body: &Body) -> Result<Vec<Member>, AllocError>
-    ensures { IfOk result (λ v. v.items ≡ present (logicals B body.now)) }
-{
-    members_from::<B>(alloc, body, top_count::<B>(body), slot_count::<B>(body))
-}
-
 fn label_parts(alloc: Global, label: &Label, slice: &Member) -> Result<Vec<Member>, AllocError>
     requires small { slice.now.first < 2 ^ 66 }
     requires counted { length label.now.entries ≡ 8 }
     ensures { IfOk result (λ v. v.items ≡ present (parts_in (Some label.now) slice.now)) }
 {
     let mut members = Vec::new(alloc);
-    for k in 0..8usize {
+    for k in 0..LETTERS {
         push_member(&mut members, part_slot(label, slice, k))?;
     }
     Ok(members)
@@ -140,21 +123,19 @@ fn slice_parts(alloc: Global, layout: &Layout, slice: &Member) -> Result<Vec<Mem
 
 // The records or entries, in the sectors that are usable on the disk.
 #[tactic(auto, unfolding(pt_members::specs::Members::top_group))]
-fn top_siblings<const B: usize>(alloc: Global, layout: &Layout) -> Result<Siblings, AllocError>
+fn top_siblings<const B: usize>(
+    alloc: Global,
+    layout: &Layout,
+    members: &[Member],
+) -> Result<Siblings, AllocError>
+    requires { members.now ≡ present (tops B layout.now.body) }
     ensures { IfOk result (λ g. g ≡ top_group B layout.now.sectors layout.now.body) }
 {
-    let members = top_members::<B>(alloc, &layout.body)?;
-    match &layout.body {
-        Body::Mbr { .. } => {
-            let high = layout.sectors.saturating_sub(1);
-            Ok(Siblings::new(1, u128::from(high), members))
-        }
-        Body::Gpt(table) => Ok(Siblings::new(
-            u128::from(table.first),
-            u128::from(table.last),
-            members,
-        )),
-    }
+    let (low, high) = match &layout.body {
+        Body::Mbr { .. } => (1, layout.sectors.saturating_sub(1)),
+        Body::Gpt(table) => (table.first, table.last),
+    };
+    Siblings::of(alloc, u128::from(low), u128::from(high), members)
 }
 
 // What a member holds, if it holds others.
@@ -162,21 +143,27 @@ fn top_siblings<const B: usize>(alloc: Global, layout: &Layout) -> Result<Siblin
 fn held<const B: usize>(
     alloc: Global,
     layout: &Layout,
+    logicals: &[Member],
     m: &Member,
 ) -> Result<Option<Siblings>, AllocError>
+    requires logicals { logicals.now ≡ present (logicals_spec B layout.now.body) }
     requires small { m.now.first < 2 ^ 66 }
     ensures { IfOk result (λ g. option_to_list g ≡ group_in B layout.now m.now) }
 {
     match m.kind {
         Kind::Leaf => Ok(None),
-        Kind::Slice => match slice_parts(alloc, layout, m) {
-            Ok(members) => Ok(Some(Siblings::new(m.first + u128::from(RESERVED), m.last, members))),
-            Err(e) => Err(e),
-        },
-        Kind::Extended => match logical_members::<B>(alloc, &layout.body) {
-            Ok(members) => Ok(Some(Siblings::new(m.first, m.last, members))),
-            Err(e) => Err(e),
-        },
+        Kind::Slice => {
+            let members = slice_parts(alloc, layout, m)?;
+            Ok(Some(Siblings {
+                low: m.first + u128::from(RESERVED),
+                high: m.last,
+                members,
+            }))
+        }
+        Kind::Extended => {
+            let group = Siblings::of(alloc, m.first, m.last, logicals)?;
+            Ok(Some(group))
+        }
     }
 }
 
@@ -194,7 +181,9 @@ fn has_extended(records: &[Option<Record>; 4]) -> bool
 fn stray_siblings<const B: usize>(
     alloc: Global,
     body: &Body,
+    logicals: &[Member],
 ) -> Result<Option<Siblings>, AllocError>
+    requires { logicals.now ≡ present (logicals_spec B body.now) }
     ensures { IfOk result (λ g. option_to_list g ≡ strays B body.now) }
 {
     let records = match body {
@@ -204,10 +193,8 @@ fn stray_siblings<const B: usize>(
     if has_extended(records) {
         return Ok(None);
     }
-    match logical_members::<B>(alloc, body) {
-        Ok(members) => Ok(Some(Siblings::new(1, 0, members))),
-        Err(e) => Err(e),
-    }
+    let group = Siblings::of(alloc, 1, 0, logicals)?;
+    Ok(Some(group))
 }
 
 fn push_group(groups: &mut Vec<Siblings>, group: Option<Siblings>) -> Result<(), AllocError>
@@ -219,41 +206,37 @@ fn push_group(groups: &mut Vec<Siblings>, group: Option<Siblings>) -> Result<(),
     Ok(())
 }
 
-// What the member in a place holds.
-fn held_at<const B: usize>(
+// What the members in a table's own places hold, behind the groups that were there.
+fn push_held<const B: usize>(
     alloc: Global,
     layout: &Layout,
-    k: usize,
-    number: u64,
-) -> Result<Option<Siblings>, AllocError>
-    requires within { k < length (slots B layout.now.body) }
-    requires number { number ≡ number_at layout.now.body k }
-    ensures { IfOk result (λ g. option_to_list g ≡ held_by (group_in B layout.now) (slice_index_or (slots B layout.now.body) k None)) }
+    logicals: &[Member],
+    groups: &mut Vec<Siblings>,
+) -> Result<(), AllocError>
+    requires { logicals.now ≡ present (logicals_spec B layout.now.body) }
+    ensures { OnOk result (groups.new.items ≡ groups.old.items ++ flat_map (group_in B layout.now) (present (slots B layout.now.body))) }
 {
-    match numbered_slot::<B>(&layout.body, k, number) {
-        Some(m) => held::<B>(alloc, layout, &m),
-        None => Ok(None),
+    for member in layout.body.members::<B>() {
+        let group = held::<B>(alloc, layout, logicals, &member)?;
+        push_group(groups, group)?;
     }
+    Ok(())
 }
 
 // All groups, in path order of what holds them, the top level first.
-#[tactic(auto, using(crate::proofs::Extended::groups_end, pt_members::proofs::ByPlace::from_five))]
+#[tactic(auto, unfolding(pt_members::specs::Members::groups_of), using(crate::proofs::Presence::split))]
 pub(crate) fn groups<const B: usize>(
     alloc: Global,
     layout: &Layout,
 ) -> Result<Vec<Siblings>, AllocError>
     ensures { IfOk result (λ v. v.items ≡ groups_of B layout.now) }
 {
+    let members = members::<B>(alloc, &layout.body)?;
+    let (tops, logicals) = members.split_at(top_count::<B>(&layout.body, &members));
     let mut groups = Vec::new(alloc);
-    let top = top_siblings::<B>(alloc, layout)?;
-    push_group(&mut groups, Some(top))?;
-    let mut number = FIRST_LOGICAL;
-    for k in 0..slot_count::<B>(&layout.body) {
-        let group = held_at::<B>(alloc, layout, k, number)?;
-        push_group(&mut groups, group)?;
-        number = next_number::<B>(&layout.body, k, number);
-    }
-    let group = stray_siblings::<B>(alloc, &layout.body)?;
+    groups.push(top_siblings::<B>(alloc, layout, tops)?)?;
+    push_held::<B>(alloc, layout, logicals, &mut groups)?;
+    let group = stray_siblings::<B>(alloc, &layout.body, logicals)?;
     push_group(&mut groups, group)?;
     Ok(groups)
 }

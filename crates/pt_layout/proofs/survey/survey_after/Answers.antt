@@ -3,7 +3,7 @@ use Rattle.pt_sector.specs.Sectors.{Sectors}
 use Rattle.pt_sector.specs.Device.{Told}
 use Rattle.pt_gpt.specs.Copies.{HasRoom}
 use Rattle.pt_recover.specs.Denotes.{IsMbr, IsMbrDisk, head, body}
-use Rattle.pt_recover.specs.declared.error.NoTable.TheVariants.{TooSmall}
+use Rattle.pt_recover.specs.declared.error.Reason.TheVariants.{TooSmall}
 use Rattle.pt_layout.specs.Surveys.{HeadOf, IsSurvey}
 use Rattle.pt_layout.specs.declared.health.Head.TheVariants.{Unprotected}
 use Rattle.pt_layout.proofs.Verdicts.{small_reason, empty_head, head_is, records_mbr, records_plain}
@@ -65,6 +65,9 @@ returns-in_err-first-clause-place g c = λ tells.
 pub returns-in_err-first-clause-numbers : goal.returns-in_err-first-clause-numbers
 returns-in_err-first-clause-numbers g c = let p = err_from_is_err_and c.from_residual.result c.from_residual.ensures.1 in rw p.1 tt
 
+pub returns-in_err-first-clause-tells : goal.returns-in_err-first-clause-tells
+returns-in_err-first-clause-tells g c = let p = err_from_is_err_and c.from_residual.result c.from_residual.ensures.1 in rw p.1 tt
+
 pub returns-in_err-first-clause-ok : goal.returns-in_err-first-clause-ok
 returns-in_err-first-clause-ok g c = λ tells.
     let p = err_from_is_err_and c.from_residual.result c.from_residual.ensures.1 in rw p.1 tt
@@ -85,6 +88,9 @@ returns-in-Some-clause-place g c = λ tells.
 
 pub returns-in-Some-clause-numbers : goal.returns-in-Some-clause-numbers
 returns-in-Some-clause-numbers g c = c.survey_mbr.ensures.numbers
+
+pub returns-in-Some-clause-tells : goal.returns-in-Some-clause-tells
+returns-in-Some-clause-tells g c = c.survey_mbr.ensures.tells
 
 pub returns-in-Some-clause-ok : goal.returns-in-Some-clause-ok
 returns-in-Some-clause-ok g c = λ tells.
@@ -107,6 +113,9 @@ returns-in-None-clause-place g c = λ tells.
 
 pub returns-in-None-clause-numbers : goal.returns-in-None-clause-numbers
 returns-in-None-clause-numbers g c = c.survey_gpt.ensures.numbers
+
+pub returns-in-None-clause-tells : goal.returns-in-None-clause-tells
+returns-in-None-clause-tells g c = c.survey_gpt.ensures.tells
 
 pub returns-in-None-clause-ok : goal.returns-in-None-clause-ok
 returns-in-None-clause-ok g c = λ tells.

@@ -47,3 +47,6 @@ returns-clause-blames g c = c.in_ok-finding.ensures.blames
 
 pub returns-clause-numbers : goal.returns-clause-numbers
 returns-clause-numbers g c = c.requires.numbers
+
+pub returns-clause-tells : goal.returns-clause-tells
+returns-clause-tells g c = λ none. absurd cc

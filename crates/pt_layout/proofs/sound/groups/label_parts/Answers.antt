@@ -1,12 +1,14 @@
-use Rattle.std.proofs.Common.{arith}
+use Rattle.std.proofs.Common.{◌++◌, ◌∙◌, List, ap, arith}
+use Rattle.std.specs.Prelude.{option_to_list}
+use Rattle.pt_members.specs.declared.member.Member.{Member}
 use Rattle.pt_layout.proofs.Presence.{part_more, part_end}
 use Rattle.pt_layout.proofs.sound.groups.label_parts.Goals as goal
 
 pub loop-k-preserved : goal.loop-k-preserved
 loop-k-preserved c =
-    part_more c.args.label.now c.args.slice.now c.loop-k.k c.loop-k.members.items c.part_slot.result c.push_member.new.members.items
-    c.loop-k-test.true c.requires.counted c.loop-k.invariant c.part_slot.ensures c.in_ok-push_member.ensures
+    let part = option_to_list c.part_slot.result in
+    c.in_ok-push_member.ensures ∙ ap (λ (l : List Member). l ++ part) c.loop-k.invariant
+    ∙ rw c.part_slot.ensures (part_more c.args.label.now c.args.slice.now c.loop-k.k c.loop-k-test.true c.requires.counted)
 
 pub returns : goal.returns
-returns c =
-    part_end c.args.label.now c.args.slice.now c.loop-k.k c.loop-k.members.items (omega arith) c.requires.counted c.loop-k.invariant
+returns c = c.loop-k.invariant ∙ part_end c.args.label.now c.args.slice.now c.loop-k.k (omega arith) c.requires.counted
