@@ -1,7 +1,7 @@
 -- How many label places a layout has.
-use Rattle.std.proofs.Common.{◌≡◌, ℕ, ◌+◌, ◌≤◌, List, [], ◌∷◌, length, filter, Bool, true, false, refl, arith, length-append, Option}
-use Rattle.std.proofs.Common.{Some, None}
+use Rattle.std.proofs.Common.{◌≡◌, ℕ, ◌+◌, ◌≤◌, List, [], ◌∷◌, length, arith, length-append, Option, Some, None}
 use Rattle.std.specs.Prelude.{flat_map}
+use Rattle.std.proofs.lemmas.List.Sums.{length-filter, count_by-le-length}
 use Rattle.pt_gpt.specs.declared.table.Table.{Table}
 use Rattle.pt_mbr.specs.declared.ebr.Ebr.{Ebr}
 use Rattle.pt_mbr.specs.declared.record.Record.{Record}
@@ -13,15 +13,6 @@ use Rattle.pt_members.specs.declared.member.Kind.{Kind}
 use Rattle.pt_members.specs.declared.member.Kind.TheVariants as kind
 use Rattle.pt_members.specs.declared.member.Member.{Member}
 use Rattle.pt_members.proofs.ByPlace.{mbr_len, gpt_len}
-
-few_more : (p : Slice → Bool) (s : Slice) (ss : List Slice) → length (filter p ss) ≤ length ss → (c : Bool) → p s ≡ c
-    → length (filter p (s ∷ ss)) ≤ length (s ∷ ss)
-few_more p s ss later true so = (let kept : filter p (s ∷ ss) ≡ s ∷ filter p ss = rw (so, filter) refl in rw kept (omega (arith, later)))
-few_more p s ss later false so = (let dropped : filter p (s ∷ ss) ≡ filter p ss = rw (so, filter) refl in rw dropped (omega (arith, later)))
-
-few_filtered : (p : Slice → Bool) (ss : List Slice) → length (filter p ss) ≤ length ss
-few_filtered p [] = omega arith
-few_filtered p (s ∷ ss) = few_more p s ss (few_filtered p ss) (p s) refl
 
 few_kind : (k : Kind) (s : Slice) → length (slice_as k s) ≤ 1
 few_kind kind.Leaf s = omega arith
@@ -41,7 +32,9 @@ few_slices (o ∷ os) =
 
 few_places : (b n : ℕ) (y : Body) → length (places_of b n y) ≤ length (slots b y)
 unfolding places_of slices_of
-few_places b n y = omega (arith, few_slices (slots b y), few_filtered (has_place n) (flat_map slice_in (slots b y)))
+few_places b n y =
+    let slices = flat_map slice_in (slots b y) in
+    omega (arith, few_slices (slots b y), length-filter (has_place n) slices, count_by-le-length (has_place n) slices)
 
 -- a GPT has no more than its entries
 pub few_gpt_places : (b n : ℕ) (t : Table) → length (places_of b n (Gpt t)) ≤ length t.entries

@@ -12,7 +12,8 @@ use Rattle.pt_members.specs.declared.member.Member.{Member}
 use Rattle.pt_path.specs.declared.path.Path.{Path}
 use Rattle.pt_layout.specs.Sound.{Sound}
 use Rattle.pt_members.specs.Tables.{IsEbr}
-use Rattle.pt_members.proofs.Grouped.{contains_head, contains_tail, place_member}
+use Rattle.pt_members.proofs.ByRows.{place_member}
+use Rattle.pt_members.proofs.Grouped.{contains_head, contains_tail}
 use Rattle.pt_layout.proofs.OneHome.{slot_one}
 use Rattle.pt_cases.proofs.Slots.{slot_usable_lem}
 use Rattle.pt_cases.specs.Keeps.{IsSliceMember, EndsOnDisk}

@@ -5,6 +5,7 @@ pub mod AskedLemmas
 pub mod Both
 pub mod Causes
 pub mod Changes
+pub mod Chosen
 pub mod Counts
 pub mod Covers
 pub mod Denoted

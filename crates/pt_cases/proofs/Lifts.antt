@@ -16,7 +16,7 @@ use Rattle.pt_recover.specs.declared.trace.TracedRun.{TracedRun}
 use Rattle.pt_cases.proofs.Along.{along_map}
 use Rattle.pt_cases.specs.Writes.{IsHeadTarget, EbrsEnd, ChainEnds, IsEncoded, IsLabelTarget, kept, changed, new, ComesToHold, Met}
 use Rattle.pt_cases.specs.Writes.{LabelsMet, stood, set, there, Set, WritesLabels}
-use Rattle.pt_cases.proofs.SplitsLemmas.{same_or_not, in_or_not}
+use Rattle.pt_cases.proofs.Chosen.{same_or_not, in_or_not}
 use Rattle.pt_cases.specs.Targets.{IsPlaceTarget, Targeted, AreLabelTargets, AreMbrTargets, AreNewWrites, InSectorOrder, HasLoneChain}
 use Rattle.pt_cases.specs.Targets.{HasEbrs}
 use Rattle.pt_cases.specs.declared.targets.target.TargetKind.TheVariants.{Stays, New, Changes}

@@ -14,7 +14,7 @@ use Rattle.pt_members.specs.declared.layout.Labelled.{Labelled}
 use Rattle.pt_members.specs.declared.layout.Body.{Body}
 use Rattle.pt_members.specs.declared.layout.Body.TheVariants.{Mbr}
 use Rattle.pt_members.specs.Members.{record_member, logical_member, logicals_as, tops, logicals}
-use Rattle.pt_members.specs.inner.Tables.{AtPlace}
+use Rattle.pt_members.proofs.Standing.{AtPlace}
 use Rattle.pt_layout.specs.Sound.{Sound}
 use Rattle.pt_members.proofs.Grouped.{contains_head, contains_tail}
 use Rattle.pt_cases.specs.Writes.{FitsRecord, FitsSlot, FitsLogical, Linked, FitsChain, FitsExtended, FitsMbr, FitsBody, Shaped, start_of}

@@ -1,6 +1,6 @@
 -- The writes that are left of a plan's targets, when those that hold already are left out.
-use Rattle.std.proofs.Common.{◌≡◌, ◌∙◌, ◌⊎◌, inl, inr, ⊎_elim, ℕ, zero, suc, ◌<◌, List, [], ◌∷◌, length, filter, Bool, true, false, refl}
-use Rattle.std.proofs.Common.{sym, ap, subst, arith}
+use Rattle.std.proofs.Common.{◌≡◌, ◌∙◌, inl, inr, ℕ, zero, suc, ◌<◌, List, [], ◌∷◌, length, filter, cond, Bool, true, false, refl}
+use Rattle.std.proofs.Common.{sym, ap, arith}
 use Rattle.std.specs.Prelude.{◌↔◌}
 use Rattle.pt_sector.specs.Sectors.{Sectors, sector, Writes, Puts, sector_at, IsAscending}
 use Rattle.pt_cases.specs.Writes.{ComesToHold}
@@ -30,60 +30,47 @@ rises_one (w ∷ ws) s v x rises (inr p) (inl q) = let less = rises.0 s v p in a
 rises_one (w ∷ ws) s v x rises (inr p) (inr q) = rises_one ws s v x rises.1 p q
 
 module _ (pick : ℕ × List ℕ → Bool) where
-  keep_it : (w : ℕ × List ℕ) (ws : Writes) → pick w ≡ true → filter pick (w ∷ ws) ≡ w ∷ filter pick ws
-  keep_it w ws so = rw (so, filter) refl
-
-  drop_it : (w : ℕ × List ℕ) (ws : Writes) → pick w ≡ false → filter pick (w ∷ ws) ≡ filter pick ws
-  drop_it w ws so = rw (so, filter) refl
-
-  either : (w : ℕ × List ℕ) → (pick w ≡ true) ⊎ (pick w ≡ false)
-  either w = by_case (pick w) refl where
-    by_case : (c : Bool) → pick w ≡ c → (pick w ≡ true) ⊎ (pick w ≡ false)
-    by_case true so = inl so
-    by_case false so = inr so
-
   -- what is picked is there, and is picked
   pub picked : (ws : Writes) (s : ℕ) (v : List ℕ) → Puts (filter pick ws) s v → Puts ws s v × (pick (s, v) ≡ true)
   picked [] s v puts = absurd puts
-  picked (w ∷ ws) s v puts = ⊎_elim
-      (λ so. ⊎_elim
-      (λ here. (inl here, ap pick (λ i. (sym here.0 i, sym here.1 i)) ∙ so))
-      (λ later. (let rest = picked ws s v later in (inr rest.0, rest.1)))
-      (subst (λ (l : Writes). Puts l s v) (keep_it w ws so) puts))
-      (λ so. (let rest = picked ws s v (subst (λ (l : Writes). Puts l s v) (drop_it w ws so) puts) in (inr rest.0, rest.1)))
-      (either w)
+  picked (w ∷ ws) s v puts = by_test (λ there. (let it = picked ws s v there in (inr it.0, it.1))) (pick w) refl puts where
+    by_test : (Puts (filter pick ws) s v → Puts (w ∷ ws) s v × (pick (s, v) ≡ true)) → (is : Bool) → pick w ≡ is
+        → Puts (cond is (w ∷ filter pick ws) (filter pick ws)) s v → Puts (w ∷ ws) s v × (pick (s, v) ≡ true)
+    by_test later true so (inl here) = (inl here, ap pick (λ i. (sym here.0 i, sym here.1 i)) ∙ so)
+    by_test later true so (inr there) = later there
+    by_test later false so there = later there
 
   pub picks : (ws : Writes) (s : ℕ) (v : List ℕ) → Puts ws s v → pick (s, v) ≡ true → Puts (filter pick ws) s v
   picks [] s v puts so = absurd puts
-  picks (w ∷ ws) s v (inl here) so =
-      let it : pick w ≡ true = ap pick (λ i. (here.0 i, here.1 i)) ∙ so in
-      subst (λ (l : Writes). Puts l s v) (sym (keep_it w ws it)) (inl here)
-  picks (w ∷ ws) s v (inr later) so = ⊎_elim
-      (λ it. subst (λ (l : Writes). Puts l s v) (sym (keep_it w ws it)) (inr (picks ws s v later so)))
-      (λ it. subst (λ (l : Writes). Puts l s v) (sym (drop_it w ws it)) (picks ws s v later so))
-      (either w)
+  picks (w ∷ ws) s v puts so = by_test (λ there. picks ws s v there so) (pick w) refl puts where
+    by_test : (Puts ws s v → Puts (filter pick ws) s v) → (is : Bool) → pick w ≡ is → Puts (w ∷ ws) s v
+        → Puts (cond is (w ∷ filter pick ws) (filter pick ws)) s v
+    by_test later true it (inl here) = inl here
+    by_test later true it (inr there) = inr (later there)
+    by_test later false it (inl here) = (let both : false ≡ true = sym it ∙ ap pick (λ i. (here.0 i, here.1 i)) ∙ so in absurd cc)
+    by_test later false it (inr there) = later there
 
   pub picked_rise : (ws : Writes) → Rises ws → Rises (filter pick ws)
   picked_rise [] rises = tt
-  picked_rise (w ∷ ws) rises = ⊎_elim
-      (λ it. subst Rises (sym (keep_it w ws it)) (λ s v puts. rises.0 s v (picked ws s v puts).0, picked_rise ws rises.1))
-      (λ it. subst Rises (sym (drop_it w ws it)) (picked_rise ws rises.1))
-      (either w)
+  picked_rise (w ∷ ws) rises = elim (pick w) as (λ (is : Bool). Rises (cond is (w ∷ filter pick ws) (filter pick ws))) [
+    | true ↦ (λ s v puts. rises.0 s v (picked ws s v puts).0, picked_rise ws rises.1)
+    | false ↦ picked_rise ws rises.1
+  ]
 
   -- where all that isn't picked holds already, each target ends as it is to
   pub picked_ends : (d : Sectors) (ws : Writes) → Rises ws → ((s : ℕ) (v : List ℕ) → Puts ws s v → pick (s, v) ≡ false → v ≡ sector d s)
       → (s : ℕ) (v : List ℕ) → Puts ws s v → ComesToHold d (filter pick ws) s v
-  picked_ends d ws rises holds s v puts = ⊎_elim
-      (λ it. inl (picks ws s v puts it))
-      (λ it. inr (
-        holds s v puts it,
-        λ x again.
-            let there = picked ws s x again in
-            let same : x ≡ v = rises_one ws s x v rises there.0 puts in
-            let both : false ≡ true = sym it ∙ ap (λ (y : List ℕ). pick (s, y)) (sym same) ∙ there.1 in
-            absurd cc,
-      ))
-      (either (s, v))
+  picked_ends d ws rises holds s v puts = by_test (pick (s, v)) refl where
+    by_test : (is : Bool) → pick (s, v) ≡ is → ComesToHold d (filter pick ws) s v
+    by_test true it = inl (picks ws s v puts it)
+    by_test false it = inr (
+      holds s v puts it,
+      λ x again.
+          let there = picked ws s x again in
+          let same : x ≡ v = rises_one ws s x v rises there.0 puts in
+          let both : false ≡ true = sym it ∙ ap (λ (y : List ℕ). pick (s, y)) (sym same) ∙ there.1 in
+          absurd cc,
+    )
 
 -- the same writes in another order end alike
 pub ends_alike : (d : Sectors) (a c : Writes) → ((s : ℕ) (v : List ℕ) → Puts a s v ↔ Puts c s v) → (s : ℕ) (v : List ℕ)

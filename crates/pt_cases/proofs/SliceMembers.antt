@@ -3,16 +3,17 @@ use Rattle.std.specs.Prelude.{◌≡◌, ◌<◌, ◌≤◌, ◌+◌, ◌-◌, �
 use Rattle.std.proofs.Common.{refl, sym, ap, ◌∙◌, arith, inl, inr}
 use Rattle.std.proofs.lemmas.List.Elements.{Contains-append_cases}
 use Rattle.pt_members.specs.Members.{extent_len, slice_from, slice_as, slice_of, slice_in, slices_of, number_path, slots, Group}
-use Rattle.pt_members.specs.Members.{top_group, IsMember}
+use Rattle.pt_members.specs.Members.{top_group}
+use Rattle.pt_members.specs.Rows.{IsMember}
 use Rattle.pt_members.specs.declared.layout.Slice.{Slice}
 use Rattle.pt_members.specs.declared.layout.Layout.{Layout}
 use Rattle.pt_members.specs.declared.layout.Body.{Body}
 use Rattle.pt_members.specs.declared.member.Kind.{Kind}
 use Rattle.pt_members.specs.declared.member.Kind.TheVariants as kind
 use Rattle.pt_members.specs.declared.member.Member.{Member}
-use Rattle.pt_members.specs.inner.Tables.{AtPlace}
-use Rattle.pt_members.proofs.Grouped.{place_member}
-use Rattle.pt_members.proofs.OnePathLemmas.{slot_whole}
+use Rattle.pt_members.proofs.ByRows.{place_member}
+use Rattle.pt_members.proofs.Paths.{slot_whole}
+use Rattle.pt_members.proofs.Standing.{AtPlace}
 use Rattle.pt_layout.specs.Sound.{LiesInside, Sound}
 use Rattle.pt_cases.proofs.Slots.{slot_usable_lem}
 use Rattle.pt_cases.specs.Keeps.{IsSliceMember, LiesUsable}

@@ -6,7 +6,7 @@ use Rattle.pt_members.specs.declared.layout.Layout.{Layout}
 use Rattle.pt_members.specs.declared.member.Kind.TheVariants.{Extended}
 use Rattle.pt_members.specs.declared.member.Member.{Member}
 use Rattle.pt_members.specs.Members.{Group, group_of, groups_of, group_in, top_group, strays, present, slots, tops, logicals}
-use Rattle.pt_members.specs.inner.Tables.{AtPlace}
+use Rattle.pt_members.proofs.Standing.{AtPlace}
 use Rattle.pt_layout.specs.Sound.{LiesInside, IsMemberOf, Sound}
 use Rattle.pt_layout.proofs.OneHome.{holder}
 use Rattle.pt_members.proofs.Grouped.{present_split, place_left, to_present, to_flat, contains_head, contains_tail, top_members}

@@ -1,115 +1,114 @@
 -- Lemmas on what is left of some targets, by whether it is one write of a guarded sector.
-use Rattle.std.proofs.Common.{◌≡◌, ◌≢◌, ◌∙◌, ◌⊎◌, inl, inr, ⊎_elim, ℕ, ◌<◌, List, [], ◌∷◌, ◌++◌, refl, sym, subst, arith, Bool, true}
-use Rattle.std.proofs.Common.{false, Decides}
+use Rattle.std.proofs.Common.{◌≡◌, ◌∙◌, inl, inr, ⊎_elim, ℕ, ◌<◌, List, [], ◌∷◌, ◌++◌, refl, sym, subst, arith, Some, None, Bor}
 use Rattle.std.specs.Prelude.{Contains}
-use Rattle.std.specs.Str.{bytes_eq}
-use Rattle.std.proofs.lemmas.Bool.{cases_lt}
 use Rattle.std.proofs.lemmas.List.Elements.{All-nil, All-cons}
-use Rattle.std.proofs.lemmas.Slice.Eq.{bytes_eq-Decides}
 use Rattle.pt_sector.specs.Sectors.{Sectors, Writes, Puts, IsAscending}
 use Rattle.pt_apply.specs.Plans.{writes_of, PhaseInRange}
 use Rattle.pt_apply.specs.declared.plan.Write.{Write}
-use Rattle.pt_recover.specs.Spans.{InRun, IsIn}
+use Rattle.pt_recover.specs.Spans.{IsIn}
 use Rattle.pt_recover.specs.declared.trace.TracedRun.{TracedRun}
 use Rattle.pt_cases.specs.Writes.{one_write, ComesToHold}
 use Rattle.pt_apply.proofs.Puts.{puts_split, puts_left, puts_right}
-use Rattle.pt_cases.specs.Targets.{Differs, IsUnreadNew, AllBelow, targeted, TellDisk, IsSplit, NotOneLoud, IsOneChange, NotOneChange}
-use Rattle.pt_cases.specs.Targets.{AreNewWrites}
-use Rattle.pt_cases.specs.inner.Targets.{IsLoud, IsQuiet, Selects, NotAlone}
-use Rattle.pt_cases.proofs.SelectedLemmas.{selected_from, selected_all, selected_few, selected_ascend, selected_not}
+use Rattle.pt_cases.specs.Targets.{AllBelow, targeted, TellDisk, IsSplit, NotOneLoud, IsOneChange, NotOneChange, AreNewWrites}
+use Rattle.pt_cases.specs.inner.Targets.{chosen_writes, only}
+use Rattle.pt_cases.proofs.Chosen.{same_or_not, in_or_not}
+use Rattle.pt_cases.proofs.SelectedLemmas.{selected_from, selected_all, selected_few, selected_ascend, selected_not, selected_not_one}
 use Rattle.pt_cases.specs.declared.targets.target.Target.{Target}
+use Rattle.pt_cases.specs.declared.targets.writes.Choice.{Choice}
+use Rattle.pt_cases.specs.declared.targets.writes.Choice.TheVariants.{Unmet, Loud, Quiet, UnreadNew}
 
--- two lists of bytes are the same, or not
-pub same_or_not : (xs ys : List ℕ) → (xs ≡ ys) ⊎ (xs ≢ ys)
-same_or_not xs ys = by_test (bytes_eq xs ys) (bytes_eq-Decides xs ys) where
-  by_test : (t : Bool) → Decides t (xs ≡ ys) → (xs ≡ ys) ⊎ (xs ≢ ys)
-  by_test true says = inl (says.0 refl)
-  by_test false says = inr (λ is. (let no : false ≡ true = says.1 is in absurd cc))
+-- the one element of a list
+pub only_one : {X : Type 0} (xs : List X) (x : X) → Some x ≡ only xs → xs ≡ x ∷ []
+only_one [] x is = absurd cc
+only_one (y ∷ []) x is = cc
+only_one (y ∷ z ∷ xs) x is = absurd cc
 
-in_run_or_not : (r : TracedRun) (s : ℕ) → InRun r s ⊎ ¬ InRun r s
-in_run_or_not r s = ⊎_elim
-    (λ below. inr (λ is. omega (arith, below, is.0)))
-    (λ from. ⊎_elim (λ above. inr (λ is. omega (arith, above, is.1))) (λ to. inl (from, to)) (cases_lt r.last s))
-    (cases_lt s r.first)
+module _ {b : ℕ} (guarded : Bor (List TracedRun)) (ts : List (Target b)) (up : IsAscending (targeted ts)) (loud : ℕ × List ℕ)
+    (one : chosen_writes (Loud guarded) ts ≡ loud ∷ []) where
+  abbrev quiet : Writes
+  quiet = chosen_writes (Quiet guarded) ts
 
--- a sector is in some runs, or not
-pub in_or_not : (rs : List TracedRun) (s : ℕ) → IsIn rs s ⊎ ¬ IsIn rs s
-unfolding IsIn
-in_or_not [] s = inr (λ no. no)
-in_or_not (r ∷ rs) s = ⊎_elim
-    (λ here. inl (inl here))
-    (λ not. ⊎_elim (λ there. inl (inr there)) (λ never. inr (λ is. ⊎_elim not never is)) (in_or_not rs s))
-    (in_run_or_not r s)
+  abbrev last : Writes
+  last = one_write loud.0 loud.1
 
-module _ {b : ℕ} (guarded : List TracedRun) (ts : List (Target b)) (up : IsAscending (targeted ts)) where
+  is_loud : (s : ℕ) (v : List ℕ) → Puts last s v → Puts (chosen_writes (Loud guarded) ts) s v
+  is_loud s v puts = subst (λ (ws : Writes). Puts ws s v) (sym one) puts
+
+  stayed : (t : Target b) → Contains ts t → t.bytes ≡ t.under → (x : List ℕ) → ¬ Puts (quiet ++ last) t.at.0 x
+  stayed t has same x puts = ⊎_elim
+      (λ left. selected_not (Quiet guarded) ts up t has (λ is. is.0 same) x left)
+      (λ right. selected_not (Loud guarded) ts up t has (λ is. is.0 same) x (is_loud t.at.0 x right))
+      (puts_split quiet last t.at.0 x puts)
+
+  ended : (d : Sectors) → TellDisk d ts → (t : Target b) → Contains ts t → ComesToHold d (quiet ++ last) t.at.0 t.bytes
+  ended d tell t has = ⊎_elim
+      (λ same. inr (same ∙ tell t has, stayed t has same))
+      (λ differs. ⊎_elim
+      (λ is. inl (puts_right quiet last t.at.0 t.bytes
+      (subst (λ (ws : Writes). Puts ws t.at.0 t.bytes) one (selected_all (Loud guarded) ts t has (differs, is)))))
+      (λ not. inl (puts_left quiet last t.at.0 t.bytes (selected_all (Quiet guarded) ts t has (differs, not))))
+      (in_or_not guarded.now t.at.0))
+      (same_or_not t.bytes t.under)
+
   -- quiet writes and a loud one are a split
-  pub split_one : (quiet : Writes) (loud : ℕ × List ℕ) → Selects (IsLoud guarded) ts (loud ∷ []) → Selects (IsQuiet guarded) ts quiet
-      → (d : Sectors) → TellDisk d ts → IsSplit d guarded ts quiet loud
-  split_one quiet loud l q d tell = record {
-    ascending = selected_ascend (IsQuiet guarded) ts quiet up q;
-    few = selected_few (IsQuiet guarded) ts quiet q;
-    unread = λ s v puts. (let it = selected_from (IsQuiet guarded) ts quiet q s v puts in
-        λ is. it.2.1 (subst (IsIn guarded) (sym it.3) is));
-    read = (let it = selected_from (IsLoud guarded) ts (loud ∷ []) l loud.0 loud.1 (inl (refl, refl)) in subst (IsIn guarded) it.3 it.2.1);
+  pub split_one : (d : Sectors) → TellDisk d ts → IsSplit d guarded.now ts (chosen_writes (Quiet guarded) ts) loud
+  split_one d tell = record {
+    ascending = selected_ascend (Quiet guarded) ts up;
+    few = selected_few (Quiet guarded) ts;
+    unread = λ s v puts. (let it = selected_from (Quiet guarded) ts s v puts in
+        λ is. it.2.1 (subst (IsIn guarded.now) (sym it.3) is));
+    read = (let it = selected_from (Loud guarded) ts loud.0 loud.1 (is_loud loud.0 loud.1 (inl (refl, refl))) in
+        subst (IsIn guarded.now) it.3 it.2.1);
     each = λ s v puts. ⊎_elim
-        (λ left. (let it = selected_from (IsQuiet guarded) ts quiet q s v left in (it.0, (it.1, it.2.0), it.3, it.4)))
-        (λ right. (let it = selected_from (IsLoud guarded) ts (loud ∷ []) l s v right in (it.0, (it.1, it.2.0), it.3, it.4)))
-        (puts_split quiet (one_write loud.0 loud.1) s v puts);
-    ends = ended;
+        (λ left. (let it = selected_from (Quiet guarded) ts s v left in (it.0, (it.1, it.2.0), it.3, it.4)))
+        (λ right. (let it = selected_from (Loud guarded) ts s v (is_loud s v right) in (it.0, (it.1, it.2.0), it.3, it.4)))
+        (puts_split quiet last s v puts);
+    ends = ended d tell;
     stays = stayed;
-  } where
-    stayed : (t : Target b) → Contains ts t → t.bytes ≡ t.under → (x : List ℕ) → ¬ Puts (quiet ++ one_write loud.0 loud.1) t.at.0 x
-    stayed t has same x puts = ⊎_elim
-        (λ left. selected_not (IsQuiet guarded) ts quiet up q t has (λ is. is.0 same) x left)
-        (λ right. selected_not (IsLoud guarded) ts (loud ∷ []) up l t has (λ is. is.0 same) x right)
-        (puts_split quiet (one_write loud.0 loud.1) t.at.0 x puts)
-
-    ended : (t : Target b) → Contains ts t → ComesToHold d (quiet ++ one_write loud.0 loud.1) t.at.0 t.bytes
-    ended t has = ⊎_elim
-        (λ same. inr (same ∙ tell t has, stayed t has same))
-        (λ differs. ⊎_elim
-        (λ is. inl (puts_right quiet (one_write loud.0 loud.1) t.at.0 t.bytes
-        (selected_all (IsLoud guarded) ts (loud ∷ []) l t has (differs, is))))
-        (λ not. inl (puts_left quiet (one_write loud.0 loud.1) t.at.0 t.bytes
-        (selected_all (IsQuiet guarded) ts quiet q t has (differs, not))))
-        (in_or_not guarded t.at.0))
-        (same_or_not t.bytes t.under)
-
-  -- the writes of new labels
-  pub new_are : (ws : Writes) → Selects (IsUnreadNew guarded) ts ws → AreNewWrites guarded ts ws
-  new_are ws is = record {
-    ascending = selected_ascend (IsUnreadNew guarded) ts ws up is;
-    few = selected_few (IsUnreadNew guarded) ts ws is;
-    each = λ s v puts. (let it = selected_from (IsUnreadNew guarded) ts ws is s v puts in
-        (it.0, it.1, it.2.0, it.3, it.4, λ both. it.2.1 (both.0, subst (IsIn guarded) (sym it.3) both.1)));
-    all = λ t has is_new unread. selected_all (IsUnreadNew guarded) ts ws is t has (is_new, unread);
-    others = λ t has other. selected_not (IsUnreadNew guarded) ts ws up is t has (λ it. other it.0);
-    there = λ t has is_new both. selected_not (IsUnreadNew guarded) ts ws up is t has (λ it. it.1 both);
   }
 
 module _ {b : ℕ} (ts : List (Target b)) (up : IsAscending (targeted ts)) where
+  -- the writes of new labels
+  pub new_are : (guarded : Bor (List TracedRun)) → AreNewWrites guarded.now ts (chosen_writes (UnreadNew guarded) ts)
+  new_are guarded = record {
+    ascending = selected_ascend (UnreadNew guarded) ts up;
+    few = selected_few (UnreadNew guarded) ts;
+    each = λ s v puts. (let it = selected_from (UnreadNew guarded) ts s v puts in
+        (it.0, it.1, it.2.0, it.3, it.4, λ both. it.2.1 (both.0, subst (IsIn guarded.now) (sym it.3) both.1)));
+    all = λ t has is_new unread. selected_all (UnreadNew guarded) ts t has (is_new, unread);
+    others = λ t has other. selected_not (UnreadNew guarded) ts up t has (λ it. other it.0);
+    there = λ t has is_new both. selected_not (UnreadNew guarded) ts up t has (λ it. it.1 both);
+  }
+
   -- the one write that is left
-  pub change_one : (loud : ℕ × List ℕ) → Selects Differs ts (loud ∷ []) → (d : Sectors) → TellDisk d ts → IsOneChange d ts loud
-  change_one loud l d tell = (let it = selected_from Differs ts (loud ∷ []) l loud.0 loud.1 (inl (refl, refl)) in record {
-    target = it.0;
-    change = (it.1, it.2);
-    at = it.3;
-    bytes = it.4;
-    ends = λ t has. ⊎_elim
-        (λ same. inr (same ∙ tell t has, selected_not Differs ts (loud ∷ []) up l t has (λ is. is same)))
-        (λ differs. inl (selected_all Differs ts (loud ∷ []) l t has differs))
-        (same_or_not t.bytes t.under);
-    stays = λ t has same. selected_not Differs ts (loud ∷ []) up l t has (λ is. is same);
-  })
+  pub change_one : (loud : ℕ × List ℕ) → chosen_writes Unmet ts ≡ loud ∷ [] → (d : Sectors) → TellDisk d ts → IsOneChange d ts loud
+  change_one loud one d tell =
+      let put : Puts (chosen_writes Unmet ts) loud.0 loud.1 = subst (λ (ws : Writes). Puts ws loud.0 loud.1) (sym one) (inl (refl, refl)) in
+      let it = selected_from Unmet ts loud.0 loud.1 put in
+      record {
+        target = it.0;
+        change = (it.1, it.2);
+        at = it.3;
+        bytes = it.4;
+        ends = λ t has. subst (λ (ws : Writes). ComesToHold d ws t.at.0 t.bytes) one (⊎_elim
+            (λ same. inr (same ∙ tell t has, selected_not Unmet ts up t has (λ is. is same)))
+            (λ differs. inl (selected_all Unmet ts t has differs))
+            (same_or_not t.bytes t.under));
+        stays = λ t has same x puts. selected_not Unmet ts up t has (λ is. is same) x
+            (subst (λ (ws : Writes). Puts ws t.at.0 x) (sym one) puts);
+      }
 
-pub loud_not_one : {b : ℕ} (guarded : List TracedRun) (ts : List (Target b)) → NotAlone (IsLoud guarded) ts → NotOneLoud guarded ts
-loud_not_one guarded ts (inl none) = inl (λ t change is. none t change.0 (change.1, is))
-loud_not_one guarded ts (inr two) =
-    inr (two.one, two.other, (two.has_one, two.one_is.0), (two.has_other, two.other_is.0), two.one_is.1, two.other_is.1, two.less)
+  pub loud_not_one : (guarded : Bor (List TracedRun)) → only (chosen_writes (Loud guarded) ts) ≡ None → NotOneLoud guarded.now ts
+  loud_not_one guarded none = ⊎_elim
+      (λ never. inl (λ t change is. never t change.0 (change.1, is)))
+      (λ two. inr (two.0, two.1, (two.2, two.4.0), (two.3, two.5.0), two.4.1, two.5.1, two.6))
+      (selected_not_one (Loud guarded) ts up none)
 
-pub change_not_one : {b : ℕ} (ts : List (Target b)) → NotAlone Differs ts → NotOneChange ts
-change_not_one ts (inl none) = inl (λ t change. none t change.0 change.1)
-change_not_one ts (inr two) = inr (two.one, two.other, (two.has_one, two.one_is), (two.has_other, two.other_is), two.less)
+  pub change_not_one : only (chosen_writes Unmet ts) ≡ None → NotOneChange ts
+  change_not_one none = ⊎_elim
+      (λ never. inl (λ t change. never t change.0 change.1))
+      (λ two. inr (two.0, two.1, (two.2, two.4), (two.3, two.5), two.6))
+      (selected_not_one Unmet ts up none)
 
 -- writes of sectors below n
 pub writes_in_range : {b : ℕ} (n : ℕ) (ws : List (Write b)) → ((s : ℕ) (v : List ℕ) → Puts (writes_of ws) s v → s < n) → PhaseInRange n ws
@@ -118,9 +117,9 @@ writes_in_range n (w ∷ ws) below =
     All-cons (λ (x : Write _). x.lba.0 < n) w ws (below w.lba.0 w.bytes (inl (refl, refl)))
     (writes_in_range n ws (λ s v puts. below s v (inr puts)))
 
-pub selected_in_range : {b : ℕ} (P : Target b → Type 0) (ts : List (Target b)) (ws : List (Write b)) → Selects P ts (writes_of ws)
+pub selected_in_range : {b : ℕ} (choice : Choice) (ts : List (Target b)) (ws : List (Write b)) → writes_of ws ≡ chosen_writes choice ts
     → (n : ℕ) → AllBelow n ts → PhaseInRange n ws
-selected_in_range P ts ws is n below = writes_in_range n ws (λ s v puts.
-    let it = selected_from P ts (writes_of ws) is s v puts in
+selected_in_range choice ts ws is n below = writes_in_range n ws (λ s v puts.
+    let it = selected_from choice ts s v (subst (λ (l : Writes). Puts l s v) is puts) in
     let less = below it.0 it.1 in
     omega (arith, less, it.3))

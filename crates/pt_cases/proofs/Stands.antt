@@ -17,7 +17,7 @@ use Rattle.pt_members.specs.declared.layout.Body.TheVariants.{Mbr, Gpt}
 use Rattle.pt_members.specs.declared.member.Kind.TheVariants.{Extended}
 use Rattle.pt_members.specs.declared.member.Member.{Member}
 use Rattle.pt_members.proofs.Grouped.{kind_extended}
-use Rattle.pt_members.specs.inner.Tables.{AtPlace}
+use Rattle.pt_members.proofs.Standing.{AtPlace}
 use Rattle.pt_layout.specs.Sound.{Sound}
 use Rattle.pt_members.specs.Tables.{IsEbr}
 use Rattle.pt_cases.specs.Writes.{FitsTable, Linked, FitsExtended, FitsBody, Shaped}

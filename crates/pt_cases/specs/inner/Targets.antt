@@ -1,13 +1,15 @@
 -- Sectors and what they must hold, in their order: what private contracts cite.
-use Rattle.std.specs.Prelude.{◌≡◌, ℕ, ◌+◌, ◌<◌, List, length, Contains}
-use Rattle.pt_cases.specs.Targets.{sector_of, Differs, IsUnreadNew}
-use Rattle.pt_cases.specs.declared.targets.target.Target.{Target}
-use Rattle.std.proofs.Common.{◌⊎◌, [], ◌∷◌}
+use Rattle.std.specs.Prelude.{◌≡◌, ℕ, ◌+◌, ◌<◌, List, [], ◌∷◌, length, filter, Bool, true, false, not, ◌&&◌, nat_le, bytes_eq}
+use Rattle.std.specs.Prelude.{Option, Some, None}
+use Rattle.std.specs.List.{list_any}
 use Rattle.pt_sector.specs.Sectors.{Writes}
-use Rattle.pt_recover.specs.Spans.{IsIn}
 use Rattle.pt_recover.specs.declared.trace.TracedRun.{TracedRun}
-use Rattle.pt_cases.specs.declared.targets.choice.Choice.{Choice}
-use Rattle.pt_cases.specs.declared.targets.choice.Choice.TheVariants.{UnreadNew, Quiet}
+use Rattle.pt_cases.specs.Targets.{targeted, sector_of}
+use Rattle.pt_cases.specs.declared.targets.target.Target.{Target}
+use Rattle.pt_cases.specs.declared.targets.target.TargetKind.{TargetKind}
+use Rattle.pt_cases.specs.declared.targets.target.TargetKind.TheVariants.{Stays, New, Changes}
+use Rattle.pt_cases.specs.declared.targets.writes.Choice.{Choice}
+use Rattle.pt_cases.specs.declared.targets.writes.Choice.TheVariants.{Unmet, Loud, Quiet, UnreadNew}
 
 -- ## Targets in the order of their sectors, and two of one sector.
 
@@ -15,41 +17,33 @@ use Rattle.pt_cases.specs.declared.targets.choice.Choice.TheVariants.{UnreadNew,
 abbrev pub HasTwinTargets : {b : ℕ} → List (Target b) → Type 0
 HasTwinTargets ts = (k : ℕ) × (k + 1 < length ts) × (sector_of ts k ≡ sector_of ts (k + 1))
 
--- ## The writes of the targets of which something holds, in the order of the targets.
+-- ## The targets that are chosen, and their writes.
 
--- and is one of these
-abbrev pub IsLoud : {b : ℕ} → List TracedRun → Target b → Type 0
-IsLoud guarded t = Differs t × IsIn guarded t.at.0
+-- whether its sector holds it already
+abbrev pub is_met : {b : ℕ} → Target b → Bool
+is_met t = bytes_eq t.bytes t.under
 
--- or isn't
-abbrev pub IsQuiet : {b : ℕ} → List TracedRun → Target b → Type 0
-IsQuiet guarded t = Differs t × ¬ IsIn guarded t.at.0
+-- whether the sector is in one of these runs
+abbrev pub is_in : List TracedRun → ℕ → Bool
+is_in runs s = list_any (λ (r : TracedRun). nat_le r.first s && nat_le s r.last) runs
 
-abbrev pub IsChosen : {b : ℕ} → Choice → List TracedRun → Target b → Type 0
-IsChosen UnreadNew guarded t = IsUnreadNew guarded t
-IsChosen Quiet guarded t = IsQuiet guarded t
+abbrev pub is_new : TargetKind → Bool
+is_new Stays = false
+is_new New = true
+is_new Changes = false
 
--- none of them is so
-abbrev pub NoneOf : {b : ℕ} → (Target b → Type 0) → List (Target b) → Type 0
-NoneOf P ts = (t : Target _) → Contains ts t → ¬ P t
+abbrev pub is_chosen : {b : ℕ} → Choice → Target b → Bool
+is_chosen Unmet t = not (is_met t)
+is_chosen (Loud guarded) t = not (is_met t) && is_in guarded.now t.at.0
+is_chosen (Quiet guarded) t = not (is_met t) && not (is_in guarded.now t.at.0)
+is_chosen (UnreadNew guarded) t = is_new t.kind && not (is_met t && is_in guarded.now t.at.0)
 
--- two of them are
-pub record TwoOf {b : ℕ} (P : Target b → Type 0) (ts : List (Target b)) : Type 0 where
-  pub one : Target b
-  pub other : Target b
-  pub has_one : Contains ts one
-  pub has_other : Contains ts other
-  pub one_is : P one
-  pub other_is : P other
-  pub less : one.at.0 < other.at.0
+-- the writes of those that are chosen, in their order
+abbrev pub chosen_writes : {b : ℕ} → Choice → List (Target b) → Writes
+chosen_writes choice ts = targeted (filter (is_chosen choice) ts)
 
--- not one alone is
-abbrev pub NotAlone : {b : ℕ} → (Target b → Type 0) → List (Target b) → Type 0
-NotAlone P ts = NoneOf P ts ⊎ TwoOf P ts
-
--- the writes of those of which P holds, in order
-abbrev pub Selects : {b : ℕ} → (Target b → Type 0) → List (Target b) → Writes → Type 0
-Selects P [] ws = ws ≡ []
-Selects P (t ∷ ts) ws =
-    ((rest : Writes) × P t × (ws ≡ (t.at.0, t.bytes) ∷ rest) × Selects P ts rest)
-    ⊎ ((¬ P t) × Selects P ts ws)
+-- the element of a list that has no other
+abbrev pub only : {X : Type 0} → List X → Option X
+only [] = None
+only (x ∷ []) = Some x
+only (x ∷ y ∷ rest) = None

@@ -1,5 +1,0 @@
-use Rattle.pt_cases.proofs.Mended.{mendable_by_plan_lem}
-use Rattle.pt_cases.proofs.exact.laws.mendable_by_plan.Goals as goal
-
-pub returns : goal.returns
-returns c = mendable_by_plan_lem

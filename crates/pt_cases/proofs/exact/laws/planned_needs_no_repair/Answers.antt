@@ -1,5 +1,0 @@
-use Rattle.pt_cases.proofs.Planned.{planned_needs_no_repair}
-use Rattle.pt_cases.proofs.exact.laws.planned_needs_no_repair.Goals as goal
-
-pub returns : goal.returns
-returns c = planned_needs_no_repair
