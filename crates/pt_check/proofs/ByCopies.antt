@@ -78,11 +78,11 @@ given_without_header b d t (lost, reads) gives = record {
   reads = both_read b d t (λ s. s ≡ header_place Primary (length d)) lost reads gives;
 }
 
-pub given_without_array : (b : ℕ) (d : Sectors) (t : Table) → StandingIs b d Primary t LostArray → StandingIs b d Backup t Gives
-    → IsGiven b d t WithoutArray
-given_without_array b d t (lost, reads) gives = record {
-  table = by_backup b d t (InCopy b (length d) Primary (length t.entries)) lost reads gives;
-  reads = both_read b d t (InCopy b (length d) Primary (length t.entries)) lost reads gives;
+pub given_without_array : (b : ℕ) (d : Sectors) (t : Table) (told : ℕ) → StandingIs b d Primary t (LostArray told)
+    → StandingIs b d Backup t Gives → IsGiven b d t (WithoutArray told)
+given_without_array b d t told (lost, reads) gives = record {
+  table = by_backup b d t (InCopy b (length d) Primary told) lost reads gives;
+  reads = both_read b d t (InCopy b (length d) Primary told) lost reads gives;
 }
 
 -- ## What a disk denotes with such a table.

@@ -10,7 +10,8 @@ use Rattle.pt_layout.proofs.Terms.{finding_excludes_lem}
 use Rattle.pt_check.specs.Answers.{Course, IsCalm, switch_number, stage, turn, most_writes, FirstWrite, IsPastLast, ChangesBoot, IsFit}
 use Rattle.pt_check.specs.Answers.{Leads, IsStray, IsOwned, Holds, Answers, Promises}
 use Rattle.pt_apply.specs.Plans.{writes_in, NoneIs}
-use Rattle.pt_check.specs.inner.Answers.{FirstWriteIs, TrialIs, MisplacedIs, WrongIs, concluded}
+use Rattle.pt_check.specs.inner.Answers.{FirstWriteIs, TrialIs, MisplacedIs, concluded}
+use Rattle.pt_check.proofs.Finishing.{WrongIs}
 use Rattle.pt_sector.specs.declared.address.Lba.{Lba}
 use Rattle.pt_check.proofs.Accepted.{is_switch}
 use Rattle.pt_members.specs.Tables.{OwnedOf, TableOf}
@@ -18,7 +19,7 @@ use Rattle.pt_check.specs.declared.answer.Why.{Why}
 use Rattle.pt_check.specs.declared.answer.Why.TheVariants.{TooManyWrites, OutOfRange, BootCode, ReadSector, Neither, NotATable, Owned}
 use Rattle.pt_check.specs.declared.answer.Why.TheVariants.{Final}
 use Rattle.pt_check.specs.declared.answer.Answer.TheVariants.{No, Yes}
-use Rattle.pt_check.specs.declared.objection.Found.{Found}
+use Rattle.pt_check.specs.declared.writes.Found.{Found}
 use Rattle.pt_check.specs.declared.trial.Trial.{Trial}
 use Rattle.pt_check.specs.declared.trial.Trial.TheVariants.{Passed, Refused}
 use Rattle.pt_check.proofs.Answering.{Known, known_writes, known_phase, known_all, cleared, safe}

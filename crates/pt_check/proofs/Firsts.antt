@@ -13,7 +13,7 @@ use Rattle.pt_apply.specs.Plans.{writes_of, writes_in, NoneIs}
 use Rattle.pt_apply.specs.inner.Plans.{phases_in}
 use Rattle.pt_apply.specs.declared.plan.Write.{Write}
 use Rattle.pt_check.specs.inner.Answers.{FirstWriteIs}
-use Rattle.pt_check.specs.declared.objection.Found.{Found}
+use Rattle.pt_check.specs.declared.writes.Found.{Found}
 
 -- phases of a plan
 

@@ -9,7 +9,6 @@ pub mod Firsts
 pub mod Heart
 pub mod Keeping
 pub mod OneLemmas
-pub mod Outside
 pub mod Quiet
 pub mod Ranges
 pub mod Reading
@@ -17,3 +16,4 @@ pub mod Settled
 pub mod Terms
 pub mod Trying
 pub mod Walk
+pub mod Owning

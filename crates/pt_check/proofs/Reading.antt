@@ -13,16 +13,13 @@ use Rattle.pt_sector.specs.Overlays.{FailedIn, fault_of}
 use Rattle.pt_sector.specs.declared.reading.Failure.{Failure}
 use Rattle.pt_sector.specs.declared.reading.Failure.TheVariants as failure
 use Rattle.pt_apply.specs.Plans.{writes_in}
-use Rattle.pt_recover.specs.Denotes.{Reads, FailedInDisk, failure_in}
-use Rattle.pt_recover.specs.declared.error.NoTable.{NoTable}
-use Rattle.pt_members.specs.declared.layout.Layout.{Layout}
-use Rattle.pt_layout.proofs.Failing.{reason_failed}
+use Rattle.pt_recover.specs.Denotes.{Reads}
 use Rattle.pt_check.specs.Answers.{CheckReads, FinishReads, IsUnwritten, WritesHead, phase, finish, disk_after, fault_in, FailedInCheck}
 use Rattle.pt_check.specs.Answers.{told_failure}
 use Rattle.pt_check.specs.inner.Answers.{FirstWriteIs}
 use Rattle.pt_check.specs.declared.error.CheckError.{CheckError}
 use Rattle.pt_check.specs.declared.error.CheckError.TheVariants.{Device, Memory}
-use Rattle.pt_check.specs.declared.objection.Found.{Found}
+use Rattle.pt_check.specs.declared.writes.Found.{Found}
 use Rattle.pt_check.proofs.Accepted.{got_puts}
 
 -- at one of more sectors
@@ -34,14 +31,6 @@ check_wider S T Memory more is = tt
 pub failed_told : (S : ℕ → Type 0) (f : Failure) → FailedIn S f → FailedInCheck S (told_failure f)
 failed_told S (failure.Device at) is = is
 failed_told S failure.Memory is = tt
-
--- and of recovery's
-pub recovery_told : (S : ℕ → Type 0) (r : Result Layout NoTable) (e : NoTable) (f : Failure) → r ≡ Err e → failure_in e ≡ Some f
-    → IfErr r (FailedInDisk S) → FailedInCheck S (told_failure f)
-recovery_told S (Ok o) e f is some failed = absurd cc
-recovery_told S (Err x) e f is some failed =
-    let same : x ≡ e = cc in
-    failed_told S f (reason_failed S e f some (subst (λ (y : NoTable). FailedInDisk S y) same failed))
 
 -- of the writes that an overlay holds, if they are those of the phases, a fault that came through it is of none
 both_at : (at k : ℕ) (bytes v w : List ℕ) → at ≡ k → cond (at == k) bytes v ≡ cond (at == k) bytes w

@@ -8,8 +8,8 @@ use Rattle.pt_recover.specs.Denotes.{Denotes, Reads, SameMeaning}
 use Rattle.pt_recover.proofs.Terms.{reads_decide_lem}
 use Rattle.pt_recover.specs.Spans.{IsIn}
 use Rattle.pt_recover.specs.declared.trace.TracedRun.{TracedRun}
-use Rattle.pt_check.specs.Answers.{phase_at, disk_after, Course, IsRecoveredOf}
-use Rattle.pt_check.specs.inner.Answers.{SettlesFrom, TouchedIs, LastIs, TrialIs, RefusedNeither}
+use Rattle.pt_check.specs.Answers.{phase_at, disk_after, Course}
+use Rattle.pt_check.specs.inner.Answers.{IsKnown, SettlesFrom, TouchedIs, LastIs, TrialIs, RefusedNeither}
 use Rattle.pt_check.specs.declared.trial.Trial.{Trial}
 use Rattle.pt_check.specs.declared.trial.Trial.TheVariants.{Refused, Passed}
 use Rattle.pt_check.specs.declared.answer.Why.TheVariants.{TooManyWrites, OutOfRange, BootCode, ReadSector, Neither, NotATable, Owned}
@@ -41,7 +41,7 @@ module _ (phases : List Writes) (d : Sectors) where
       ∙ kept_to_end runs n (m + 1) (omega (arith, all)) (λ j ge lt. settles j (omega (arith, ge)) lt) s is_in
 
 module _ (b : ℕ) (phases : List Writes) (d : Sectors) (new : Option Layout) (runs : List TracedRun)
-    (is : IsRecoveredOf b (after phases d) (record { layout = new; trace = runs })) where
+    (is : IsKnown b (after phases d) new runs) where
   module _ (m : ℕ) (most : m ≤ length phases) (settles : SettlesFrom (IsIn runs) phases m) where
     means_end : SameMeaning b (disk_after phases d m) (after phases d)
     means_end = reads_decide_lem b (disk_after phases d m) (after phases d) (record {

@@ -5,6 +5,8 @@ use Rattle.pt_apply.specs.Plans.{boot_code, writes_in, NoneIs, InRange, Safe}
 use Rattle.pt_layout.specs.declared.sound.finding.Finding.{Finding}
 use Rattle.pt_check.specs.declared.answer.Answer.{Answer}
 use Rattle.pt_check.specs.declared.answer.Answer.TheVariants.{No, Yes}
+use Rattle.pt_check.specs.declared.answer.Outcome.{Outcome}
+use Rattle.pt_check.specs.declared.answer.Outcome.TheVariants as outcome
 use Rattle.pt_check.specs.declared.answer.Why.{Why}
 use Rattle.pt_check.specs.declared.answer.Why.TheVariants.{TooManyWrites, OutOfRange, BootCode, ReadSector, Neither, NotATable, Owned}
 use Rattle.pt_check.specs.declared.answer.Why.TheVariants.{Final}
@@ -22,8 +24,6 @@ use Rattle.pt_sector.specs.declared.reading.Failure.{Failure}
 use Rattle.pt_sector.specs.declared.reading.Failure.TheVariants as failure
 use Rattle.pt_check.specs.declared.error.CheckError.{CheckError}
 use Rattle.pt_check.specs.declared.error.CheckError.TheVariants.{Device, Memory}
-use Rattle.pt_recover.specs.Spans.{IsIn}
-use Rattle.pt_check.specs.declared.recovered.Recovered.{Recovered}
 
 -- ## The layouts after each phase of a plan, as far as they have been looked at.
 
@@ -202,6 +202,22 @@ abbrev pub Promises : ℕ → Sectors → List Writes → Answer → Type 0
 Promises b d phases (No why) = Unit {0}
 Promises b d phases (Yes switch) = Safe (Denotes b) (Healthy b) (TableOf b) (OwnedOf b) phases d switch
 
+-- the answer of an outcome
+abbrev pub answer_of : Outcome → Answer
+answer_of (outcome.No why) = No why
+answer_of (outcome.Yes switch layout) = Yes switch
+
+-- the layout that it leads to after a yes
+abbrev pub layout_of : Outcome → Option Layout
+layout_of (outcome.No why) = None
+layout_of (outcome.Yes switch layout) = Some layout
+
+-- that answer, and the layout of the finished disk
+pub record OutcomeIs (b : ℕ) (d : Sectors) (phases : List Writes) (x : Outcome) : Type 0 where
+  pub answers : Answers b d phases (answer_of x)
+  pub promises : Promises b d phases (answer_of x)
+  pub layout : (o : Layout) → layout_of x ≡ Some o → Denotes b (after phases d) (Some o)
+
 -- after a yes: each write is of a sector below n
 abbrev pub WritesFit : {b : _} → ℕ → Plan b → Answer → Type 0
 WritesFit n plan (No why) = Unit {0}
@@ -288,10 +304,3 @@ abbrev pub SameAnswer : (Sectors → Finding → Type 0) → Sectors → Answer 
 SameAnswer finds x (Yes s) (Yes t) = s ≡ t
 SameAnswer finds x (No v) (No w) = SameReason finds x v w
 SameAnswer finds x _ _ = ⊥
-
--- ## What was recovered of a disk.
-
--- d denotes its layout, and its trace has the sectors that recovery of d reads
-pub record IsRecoveredOf (b : ℕ) (d : Sectors) (r : Recovered) : Type 0 where
-  pub denotes : Denotes b d r.layout
-  pub reads : (s : ℕ) → IsIn r.trace s ↔ Reads b d s

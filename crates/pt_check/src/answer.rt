@@ -1,10 +1,10 @@
 //! What the checker answers.
 
 ghost use Rattle.std.specs.Prelude.{◌≡◌, Some};
-ghost use Rattle.pt_check.specs.Answers.{why_number};
+ghost use Rattle.pt_check.specs.Answers.{answer_of, why_number};
 ghost use Rattle.pt_check.specs.Sentences.{why_sentence};
 
-use pt_layout::Finding;
+use pt_layout::{Finding, Layout};
 use pt_sector::Lba;
 use std::error::Error;
 use std::fmt;
@@ -97,4 +97,24 @@ pub enum Answer {
     /// It is safe. The switch is the first phase after which the disk denotes the new layout; 0 where that is the
     /// old one.
     Yes { switch: u64 },
+}
+
+/// The answer to a plan, and where it leads after a yes.
+#[derive(Drop)]
+pub enum Outcome {
+    No(Why),
+    /// It is safe, with this switch. The finished disk denotes this layout.
+    Yes { switch: u64, layout: Layout },
+}
+
+impl Outcome {
+    /// The answer alone.
+    pub fn answer(&self) -> Answer
+        ensures { result ≡ answer_of self.now }
+    {
+        match self {
+            Outcome::No(why) => Answer::No(*why),
+            Outcome::Yes { switch, .. } => Answer::Yes { switch: *switch },
+        }
+    }
 }

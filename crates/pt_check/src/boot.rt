@@ -8,7 +8,7 @@ ghost use Rattle.pt_apply.specs.Plans.{phases_of, writes_in, NoneIs};
 ghost use Rattle.pt_check.specs.Answers.{WritesHead, ChangesBoot};
 ghost use Rattle.pt_check.specs.inner.Answers.{NumberIs};
 
-use crate::objection::{Objection, first_in_plan};
+use crate::writes::{Objection, first_in_plan};
 use pt_apply::{Plan, Write};
 use pt_sector::{Disk, FailedRead, Lba, read_sector};
 

@@ -1,26 +1,27 @@
 //! Whether a plan may be applied.
 
-ghost use Rattle.std.specs.Prelude.{◌≡◌, ◌≤◌, length, IfOk, IfErr};
+ghost use Rattle.std.specs.Prelude.{◌≡◌, ◌≢◌, ◌≤◌, Some, None, length, IfOk, IfErr};
+ghost use Rattle.pt_members.specs.declared.layout.Layout.{Layout as Denoted};
 ghost use Rattle.pt_sector.specs.Device.{Blames};
 ghost use Rattle.pt_sector.specs.Overlays.{OnlyReads, read_of};
 ghost use Rattle.pt_sector.specs.Sectors.{IsSectorSize};
 ghost use Rattle.pt_apply.specs.Plans.{phases_of, writes_in};
+ghost use Rattle.pt_layout.specs.Surveys.{IsSurvey};
 ghost use Rattle.pt_check.specs.Answers.{Answers, Promises, WritesFit, switch_number, CheckReads, WritesHead, fault_in, FailedInCheck};
-ghost use Rattle.pt_check.specs.Answers.{IsFit, IsRecoveredOf};
-ghost use Rattle.pt_check.specs.inner.Answers.{AreInRange, AreJudged, concluded, MisplacedIs};
+ghost use Rattle.pt_check.specs.Answers.{IsFit, OutcomeIs, answer_of, layout_of};
+ghost use Rattle.pt_check.specs.inner.Answers.{IsKnown, AreInRange, AreJudged, concluded, MisplacedIs};
 
-use crate::answer::{Answer, Why};
+use crate::answer::{Answer, Outcome, Why};
 use crate::boot::other_boot_code;
+use crate::denoted::read_denoted;
 use crate::error::CheckError;
-use crate::finished::{Finished, read_finished};
-use crate::objection::first_in_plan;
+use crate::finished::read_finished;
 use crate::places::{OutOfRange, first_owned, first_stray, is_clear};
-use crate::recovered::{Recovered, read_layout};
 use crate::trial::{Layouts, Trial, try_phases};
-use crate::writes::count_writes;
+use crate::writes::{count_writes, first_in_plan};
 use pt_apply::Plan;
 use pt_gpt::LastArray;
-use pt_layout::Finding;
+use pt_layout::{Finding, Layout, Survey, Trace};
 use pt_sector::{Disk, FailedRead, ReadCache, Room};
 use std::alloc::{AllocError, Global};
 
@@ -47,23 +48,40 @@ pub fn check<const B: usize, D: Disk<B>>(
     ensures answers { D.tells → IfOk result (λ a. Answers B (D.told disk.old).seen (phases_of plan.now) a) }
     ensures promises { D.tells → IfOk result (λ a. Promises B (D.told disk.old).seen (phases_of plan.now) a) }
 {
+    let outcome = outcome(alloc, disk, plan)?;
+    Ok(outcome.answer())
+}
+
+/// The same answer, with the layout that the finished disk denotes after a yes.
+pub fn outcome<const B: usize, D: Disk<B>>(
+    alloc: Global,
+    disk: &mut D,
+    plan: &Plan<B>,
+) -> Result<Outcome, CheckError>
+    requires size { IsSectorSize B }
+    ensures same { OnlyReads D.Disk disk.old disk.new }
+    ensures blames { Blames fault_in result (D.faults disk.old) (D.faults disk.new) }
+    ensures place { D.tells → IfErr result (FailedInCheck (CheckReads B (D.told disk.old).seen (phases_of plan.now))) }
+    ensures in_range { IfOk result (λ x. WritesFit (D.count disk.old) plan.now (answer_of x)) }
+    ensures outcome { D.tells → IfOk result (OutcomeIs B (D.told disk.old).seen (phases_of plan.now)) }
+{
     let room = Room::for_cache(alloc)?;
     let mut cache = ReadCache::new(disk, room);
     let mut last = LastArray::new(alloc);
-    let before = read_layout(alloc, &mut cache, &mut last)?;
-    check_known(alloc, &mut cache, plan, before)
+    let (old, trace) = read_denoted(alloc, &mut cache, &mut last)?;
+    outcome_known(alloc, &mut cache, plan, old, trace)
 }
 
-/// The same answer, where it is known what the disk denotes, and by which sectors: those aren't read before the first
-/// phase. After each phase its sectors are read again, so a caller gives a [`ReadCache`] over the disk.
+/// The answer, where the disk was surveyed: what the survey tells isn't read before the first phase. After each phase its sectors are
+/// read again, so a caller gives a [`ReadCache`] over the disk.
 pub fn check_known<const B: usize, D: Disk<B>>(
     alloc: Global,
     disk: &mut D,
     plan: &Plan<B>,
-    before: Recovered,
+    survey: Survey,
 ) -> Result<Answer, CheckError>
     requires size { IsSectorSize B }
-    requires known { D.tells → IsRecoveredOf B (D.told disk.old).seen before }
+    requires survey { D.tells → IsSurvey B (D.told disk.old).seen survey }
     ensures same { OnlyReads D.Disk disk.old disk.new }
     ensures blames { Blames fault_in result (D.faults disk.old) (D.faults disk.new) }
     ensures place { D.tells → IfErr result (FailedInCheck (CheckReads B (D.told disk.old).seen (phases_of plan.now))) }
@@ -71,9 +89,30 @@ pub fn check_known<const B: usize, D: Disk<B>>(
     ensures answers { D.tells → IfOk result (λ a. Answers B (D.told disk.old).seen (phases_of plan.now) a) }
     ensures promises { D.tells → IfOk result (λ a. Promises B (D.told disk.old).seen (phases_of plan.now) a) }
 {
+    let (old, _, trace) = survey.into_parts();
+    let outcome = outcome_known(alloc, disk, plan, old, trace)?;
+    Ok(outcome.answer())
+}
+
+/// The outcome, where it is known what the disk denotes.
+fn outcome_known<const B: usize, D: Disk<B>>(
+    alloc: Global,
+    disk: &mut D,
+    plan: &Plan<B>,
+    old: Option<Layout>,
+    trace: Trace,
+) -> Result<Outcome, CheckError>
+    requires size { IsSectorSize B }
+    requires known { D.tells → IsKnown B (D.told disk.old).seen old trace }
+    ensures same { OnlyReads D.Disk disk.old disk.new }
+    ensures blames { Blames fault_in result (D.faults disk.old) (D.faults disk.new) }
+    ensures place { D.tells → IfErr result (FailedInCheck (CheckReads B (D.told disk.old).seen (phases_of plan.now))) }
+    ensures in_range { IfOk result (λ x. WritesFit (D.count disk.old) plan.now (answer_of x)) }
+    ensures outcome { D.tells → IfOk result (OutcomeIs B (D.told disk.old).seen (phases_of plan.now)) }
+{
     match judge_writes(disk, plan)? {
-        Judged::Refused(why) => Ok(Answer::No(why)),
-        Judged::Fit(count) => check_phases(alloc, disk, plan, count, before),
+        Judged::Refused(why) => Ok(Outcome::No(why)),
+        Judged::Fit(count) => check_phases(alloc, disk, plan, count, old, trace),
     }
 }
 
@@ -110,56 +149,60 @@ fn judge_writes<const B: usize, D: Disk<B>>(
     }
 }
 
-/// The answer to a plan whose writes are few, each of a sector of the disk, and none of another boot code.
+/// The outcome of a plan whose writes are few, each of a sector of the disk, and none of another boot code.
 fn check_phases<const B: usize, D: Disk<B>>(
     alloc: Global,
     disk: &mut D,
     plan: &Plan<B>,
     count: usize,
-    before: Recovered,
-) -> Result<Answer, CheckError>
+    old: Option<Layout>,
+    trace: Trace,
+) -> Result<Outcome, CheckError>
     requires size { IsSectorSize B }
     requires few { length (writes_in (phases_of plan.now)) ≤ 4096 }
     requires room { count ≡ length (writes_in (phases_of plan.now)) }
     requires fit { D.tells → IsFit (D.told disk.old).seen (phases_of plan.now) }
-    requires known { D.tells → IsRecoveredOf B (D.told disk.old).seen before }
+    requires known { D.tells → IsKnown B (D.told disk.old).seen old trace }
     ensures same { OnlyReads D.Disk disk.old disk.new }
     ensures blames { Blames fault_in result (D.faults disk.old) (D.faults disk.new) }
     ensures place { D.tells → IfErr result (FailedInCheck (CheckReads B (D.told disk.old).seen (phases_of plan.now))) }
-    ensures answers { D.tells → IfOk result (λ a. Answers B (D.told disk.old).seen (phases_of plan.now) a) }
-    ensures promises { D.tells → IfOk result (λ a. Promises B (D.told disk.old).seen (phases_of plan.now) a) }
+    ensures outcome { D.tells → IfOk result (OutcomeIs B (D.told disk.old).seen (phases_of plan.now)) }
 {
     let mut last = LastArray::new(alloc);
     let end = read_finished(alloc, disk, plan, count, &mut last)?;
-    let (old, trace) = before.into_parts();
-    let Finished {
-        layout: new,
-        trace: end,
-        finding,
-    } = end;
+    let (new, finding, end) = end.into_parts();
     let layouts = Layouts { old, new };
     let trial = try_phases(alloc, disk, plan, count, &layouts, trace, &end, &mut last)?;
     let misplaced = misplaced(alloc, plan, &layouts)?;
-    Ok(conclude(trial, misplaced, finding))
+    Ok(conclude(trial, misplaced, finding, layouts.into_new()))
 }
 
-/// The answer from its parts: the first reason against the plan, or the switch. What is wrong with the finished disk
-/// comes last.
-fn conclude(trial: Trial, misplaced: Option<Why>, finding: Option<Finding>) -> Answer
-    ensures { result ≡ concluded trial misplaced finding }
+/// The outcome from its parts: the first reason against the plan, or the switch. What is wrong with the finished disk comes last; where
+/// nothing is, it denotes a layout.
+fn conclude(
+    trial: Trial,
+    misplaced: Option<Why>,
+    finding: Option<Finding>,
+    new: Option<Layout>,
+) -> Outcome
+    requires { finding ≡ None → new ≢ None }
+    ensures answer { answer_of result ≡ concluded trial misplaced finding }
+    ensures layout { (o : Denoted) → layout_of result ≡ Some o → new ≡ Some o }
 {
     let switch = match trial {
         Trial::Passed(switch) => switch,
-        Trial::Refused(why) => return Answer::No(why),
+        Trial::Refused(why) => return Outcome::No(why),
     };
     if let Some(why) = misplaced {
-        return Answer::No(why);
+        return Outcome::No(why);
     }
-    match finding {
-        None => Answer::Yes {
+    match (finding, new) {
+        (Some(finding), _) => Outcome::No(Why::Final(finding)),
+        (None, Some(layout)) => Outcome::Yes {
             switch: number(switch),
+            layout,
         },
-        Some(finding) => Answer::No(Why::Final(finding)),
+        (None, None) => unreachable!(),
     }
 }
 

@@ -1,25 +1,23 @@
 //! The disk with the whole plan written, seen through an overlay.
 
-ghost use Rattle.std.specs.Prelude.{◌≡◌, ◌≤◌, ℕ, length, IfOk, IfErr};
+ghost use Rattle.std.specs.Prelude.{◌≡◌, ◌≤◌, length, IfOk, IfErr};
 ghost use Rattle.pt_sector.specs.Device.{Blames};
 ghost use Rattle.pt_sector.specs.Overlays.{OnlyReads, room_left, shown};
 ghost use Rattle.pt_sector.specs.Sectors.{Sectors, IsSectorSize, after};
 ghost use Rattle.pt_apply.specs.Plans.{phases_of, finished, writes_in};
-ghost use Rattle.pt_layout.specs.Surveys.{IsSurvey};
-ghost use Rattle.pt_check.specs.Answers.{fault_in, FailedInCheck, FinishReads, IsRecoveredOf};
-ghost use Rattle.pt_check.specs.inner.Answers.{WrongIs};
+ghost use Rattle.pt_layout.specs.Surveys.{IsSurvey, Tells};
+ghost use Rattle.pt_check.specs.Answers.{fault_in, FailedInCheck, FinishReads};
 
 use crate::error::CheckError;
 use crate::trial::put_phase;
 use pt_apply::Plan;
 use pt_gpt::LastArray;
-use pt_layout::{Finding, Layout, Survey, survey_after};
-use pt_recover::Trace;
+use pt_layout::{Survey, survey_after};
 use pt_sector::{Disk, Overlay, Room};
 use std::alloc::Global;
 
 /// Puts a whole plan into an overlay that has room for it: what it shows is then the disk with all of the plan's writes done.
-pub fn put_plan<'a, const B: usize, D: Disk<B>>(over: &mut Overlay<'a, D, B>, plan: &Plan<B>)
+pub(crate) fn put_plan<'a, const B: usize, D: Disk<B>>(over: &mut Overlay<'a, D, B>, plan: &Plan<B>)
     requires size { IsSectorSize B }
     requires room { length (writes_in (phases_of plan.now)) ≤ room_left over.old.own }
     ensures same_reference { over.new.disk.ghost_name ≡ over.old.disk.ghost_name }
@@ -34,32 +32,6 @@ pub fn put_plan<'a, const B: usize, D: Disk<B>>(over: &mut Overlay<'a, D, B>, pl
     }
 }
 
-/// What the finished disk denotes, by which sectors, and what is wrong with it, none where it is healthy.
-#[derive(Drop)]
-pub(crate) struct Finished {
-    pub layout: Option<Layout>,
-    pub trace: Trace,
-    pub finding: Option<Finding>,
-}
-
-fn finished_of(told: Survey) -> Finished
-    ensures recovered { (b : ℕ) (d : Sectors) → IsSurvey b d told
-        → IsRecoveredOf b d (record { layout = result.layout; trace = result.trace }) }
-    ensures wrong { (b : ℕ) (d : Sectors) → IsSurvey b d told → WrongIs b d result.finding }
-{
-    let Survey {
-        found,
-        finding,
-        trace,
-        ..
-    } = told;
-    Finished {
-        layout: found.ok(),
-        trace,
-        finding,
-    }
-}
-
 /// What one reading of the finished disk tells. `count` is the number of the plan's writes. An array isn't summed that has the bytes of
 /// the last one.
 pub(crate) fn read_finished<const B: usize, D: Disk<B>>(
@@ -68,19 +40,18 @@ pub(crate) fn read_finished<const B: usize, D: Disk<B>>(
     plan: &Plan<B>,
     count: usize,
     last: &mut LastArray,
-) -> Result<Finished, CheckError>
+) -> Result<Survey, CheckError>
     requires size { IsSectorSize B }
     requires room { count ≡ length (writes_in (phases_of plan.now)) }
     ensures same { OnlyReads D.Disk disk.old disk.new }
     ensures blames { Blames fault_in result (D.faults disk.old) (D.faults disk.new) }
     ensures place { D.tells → IfErr result (FailedInCheck (FinishReads B (D.told disk.old).seen (phases_of plan.now))) }
-    ensures recovered { D.tells → IfOk result (λ f. IsRecoveredOf B (finished plan.now (D.told disk.old).seen)
-        (record { layout = f.layout; trace = f.trace })) }
-    ensures wrong { D.tells → IfOk result (λ f. WrongIs B (finished plan.now (D.told disk.old).seen) f.finding) }
+    ensures tells { IfOk result Tells }
+    ensures survey { D.tells → IfOk result (IsSurvey B (finished plan.now (D.told disk.old).seen)) }
 {
     let room = Room::new(alloc, count)?;
     let mut over = Overlay::new(disk, room);
     put_plan(&mut over, plan);
     let told = survey_after(alloc, &mut over, last)?;
-    Ok(finished_of(told))
+    Ok(told)
 }

@@ -14,7 +14,7 @@ ghost use Rattle.pt_members.specs.Tables.{IsGptTable};
 ghost use Rattle.pt_recover.specs.Denotes.{Denotes, Reads};
 ghost use Rattle.pt_recover.specs.Spans.{IsIn};
 ghost use Rattle.pt_check.specs.Answers.{fault_in, FailedInCheck};
-ghost use Rattle.pt_follow.specs.Follow.{Follows, StandingIs};
+ghost use Rattle.pt_follow.specs.Follow.{Follows, IsShort, StandingIs};
 ghost use Rattle.pt_follow.specs.declared.standing.Standing.TheVariants.{Gives};
 ghost use Rattle.pt_check.specs.inner.Following.{AreApart, AreCopies, AreFollowed, IsFollowed, IsGiven, IsDecided, IsLostSide, StillIs};
 
@@ -38,14 +38,14 @@ pub(crate) struct Followed {
 }
 
 // Whether a copy is known to be of the table.
-fn gives(copy: &Option<FollowedCopy>, table: &Table) -> bool
-    ensures { (b : ℕ) (d : Sectors) → IsSectorSize b → IfSome copy.now (Follows b d Backup table.now) → IsTrue result
-        → StandingIs b d Backup table.now Gives }
+fn gives<const B: usize>(copy: &Option<FollowedCopy>, table: &Table) -> bool
+    requires { IsSectorSize B }
+    ensures { (d : Sectors) → IfSome copy.now (Follows B d Backup table.now) → IsTrue result → StandingIs B d Backup table.now Gives }
 {
     let Some(copy) = copy else {
         return false;
     };
-    match copy.standing(table) {
+    match copy.standing::<B>(table) {
         Standing::Gives => true,
         _ => false,
     }
@@ -53,23 +53,25 @@ fn gives(copy: &Option<FollowedCopy>, table: &Table) -> bool
 
 impl Followed {
     /// By which copies the table is denoted, if that is known.
-    fn given(&self, table: &Table) -> Option<Given>
-        ensures { (b : ℕ) (d : Sectors) → IsSectorSize b → AreCopies b d table.now self.now → IfSome result (IsGiven b d table.now) }
+    fn given<const B: usize>(&self, table: &Table) -> Option<Given>
+        requires { IsSectorSize B }
+        ensures { (d : Sectors) → AreCopies B d table.now self.now → IfSome result (IsGiven B d table.now) }
     {
-        match self.primary.standing(table) {
+        match self.primary.standing::<B>(table) {
             Standing::Gives => Some(Given::ByPrimary),
-            Standing::LostHead => self.by_backup(table, Given::WithoutHeader),
-            Standing::LostArray => self.by_backup(table, Given::WithoutArray),
+            Standing::LostHead => self.by_backup::<B>(table, Given::WithoutHeader),
+            Standing::LostArray(told) => self.by_backup::<B>(table, Given::WithoutArray(told)),
             Standing::Unclear => None,
         }
     }
 
     // That it is denoted so, if the backup is known to be of the table.
-    fn by_backup(&self, table: &Table, given: Given) -> Option<Given>
-        ensures { (b : ℕ) (d : Sectors) → IsSectorSize b → IfSome self.now.backup (Follows b d Backup table.now)
-            → IfSome result (λ g. (g ≡ given) × StandingIs b d Backup table.now Gives) }
+    fn by_backup<const B: usize>(&self, table: &Table, given: Given) -> Option<Given>
+        requires { IsSectorSize B }
+        ensures { (d : Sectors) → IfSome self.now.backup (Follows B d Backup table.now)
+            → IfSome result (λ g. (g ≡ given) × StandingIs B d Backup table.now Gives) }
     {
-        if !gives(&self.backup, table) {
+        if !gives::<B>(&self.backup, table) {
             return None;
         }
         Some(given)
@@ -92,9 +94,12 @@ impl Followed {
         if count < 1 || count > MOST_ENTRIES || !has_room::<B>(layout.sectors) {
             return Ok(None);
         }
-        let Some(given) = self.given(table) else {
+        let Some(given) = self.given::<B>(table) else {
             return Ok(None);
         };
+        if !given.is_counted() {
+            return Ok(None);
+        }
         let trace = deciding_of::<B>(
             alloc,
             &mut self.deciding,
@@ -130,7 +135,7 @@ fn are_apart<const B: usize>(alloc: Global, sectors: u64, body: &Body) -> Result
     Ok(are_clear::<B>(&places, sectors))
 }
 
-// Begins to follow a side's copy, if it can be followed.
+// Begins to follow a side's copy. None for an error that is no failure, which following it doesn't give.
 fn follow_side<const B: usize, D: Disk<B>>(
     alloc: Global,
     disk: &mut D,
@@ -145,7 +150,7 @@ fn follow_side<const B: usize, D: Disk<B>>(
     ensures ok { D.tells → IfOk result (λ o. IfSome o (Follows B (D.told disk.old).seen side table.now)) }
 {
     let error = match follow(alloc, disk, side, table) {
-        Ok(found) => return Ok(found),
+        Ok(copy) => return Ok(Some(copy)),
         Err(error) => error,
     };
     match error.failure() {
@@ -187,18 +192,53 @@ fn begin<const B: usize, D: Disk<B>>(
 
 impl Followed {
     /// Whether it is known that no primary copy stands.
-    fn has_lost(&self, table: &Table) -> bool
-        ensures { (b : ℕ) (d : Sectors) → IsSectorSize b → Follows b d Primary table.now self.now.primary → IsTrue result
-            → (u : Table) → ¬ Copy b d Primary u }
+    fn has_lost<const B: usize>(&self, table: &Table) -> bool
+        requires { IsSectorSize B }
+        ensures { (d : Sectors) → Follows B d Primary table.now self.now.primary → IsTrue result → (u : Table) → ¬ Copy B d Primary u }
     {
-        match self.primary.standing(table) {
+        match self.primary.standing::<B>(table) {
             Standing::LostHead => true,
-            Standing::LostArray => true,
+            Standing::LostArray(_) => true,
             _ => false,
         }
     }
 
-    /// Follows the backup too, once the primary copy is lost: only then recovery reads it.
+    /// Whether the backup is followed, and known as far as its header tells.
+    fn knows_backup(&self) -> bool
+        ensures { IsTrue result → IfSome self.now.backup (λ c. ¬ IsShort c) }
+    {
+        match &self.backup {
+            Some(backup) => !backup.is_short(),
+            None => false,
+        }
+    }
+
+    /// Follows the primary copy anew, as far as its header tells.
+    fn renew_primary<const B: usize, D: Disk<B>>(
+        &mut self,
+        alloc: Global,
+        disk: &mut D,
+        table: &Table,
+    ) -> Result<(), CheckError>
+        requires size { IsSectorSize B }
+        ensures same { OnlyReads D.Disk disk.old disk.new }
+        ensures blames { Blames fault_in result (D.faults disk.old) (D.faults disk.new) }
+        ensures place { D.tells → IfErr result (FailedInCheck (SideReads B (D.told disk.old).seen Primary)) }
+        ensures ok { D.tells → AreCopies B (D.told disk.old).seen table.now self.old
+            → OnOk result (AreCopies B (D.told disk.old).seen table.now self.new) }
+        ensures deciding { self.new.deciding ≡ self.old.deciding }
+    {
+        if !has_room::<B>(disk.sectors()) {
+            return Ok(());
+        }
+        if let Some(primary) = follow_side(alloc, disk, Side::Primary, table)? {
+            self.primary = primary;
+        }
+        Ok(())
+    }
+
+    /// Follows the backup too, once the primary copy is lost: only then recovery reads it. Anew, where its header tells of more entries
+    /// than are known.
     fn add_backup<const B: usize, D: Disk<B>>(
         &mut self,
         alloc: Global,
@@ -214,10 +254,10 @@ impl Followed {
             → OnOk result (AreCopies B (D.told disk.old).seen table.now self.new) }
         ensures deciding { self.new.deciding ≡ self.old.deciding }
     {
-        if self.backup.is_some() || !has_room::<B>(disk.sectors()) {
+        if self.knows_backup() || !has_room::<B>(disk.sectors()) {
             return Ok(());
         }
-        if !self.has_lost(table) {
+        if !self.has_lost::<B>(table) {
             return Ok(());
         }
         self.backup = follow_side(alloc, disk, Side::Backup, table)?;
@@ -253,7 +293,8 @@ impl Followed {
     }
 }
 
-// Follows on where a disk was just recovered, which denotes this layout: begins, or takes the backup too.
+// Follows on where a disk was just recovered, which denotes this layout: begins, reads the primary copy as far as its header tells now, or
+// takes the backup too.
 fn follow_on<const B: usize, D: Disk<B>>(
     alloc: Global,
     disk: &mut D,
@@ -275,7 +316,12 @@ fn follow_on<const B: usize, D: Disk<B>>(
         return Ok(());
     };
     match followed {
-        Some(copies) => copies.add_backup(alloc, disk, table),
+        Some(copies) => {
+            if copies.primary.is_short() {
+                return copies.renew_primary(alloc, disk, table);
+            }
+            copies.add_backup(alloc, disk, table)
+        }
         None => {
             *followed = begin(alloc, disk, layout, table)?;
             Ok(())

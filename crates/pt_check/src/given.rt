@@ -1,14 +1,14 @@
 //! Tables that one of their copies gives, and the sectors that decide a disk of such a table.
 
-ghost use Rattle.std.specs.Prelude.{◌≡◌, ◌≤◌, All, IfOk, OnOk, IfSome};
+ghost use Rattle.std.specs.Prelude.{◌≡◌, ◌≤◌, ◌↔◌, All, IfOk, OnOk, IfSome, IsTrue};
 ghost use Rattle.pt_sector.specs.Sectors.{IsSectorSize};
 ghost use Rattle.pt_gpt.specs.Copies.{HasRoom};
 ghost use Rattle.pt_recover.specs.Spans.{Adds};
 ghost use Rattle.pt_follow.specs.Follow.{InCopy};
-ghost use Rattle.pt_check.specs.inner.Following.{GivenReads, IsDeciding};
+ghost use Rattle.pt_check.specs.inner.Following.{GivenReads, IsCounted, IsDeciding};
 
 use crate::tables::add_labels;
-use pt_gpt::{Side, array_at, counted_sectors, header_at};
+use pt_gpt::{MOST_ENTRIES, Side, array_at, counted_sectors, header_at};
 use pt_members::{Body, label_places};
 use pt_recover::Trace;
 use std::alloc::{AllocError, Global};
@@ -20,8 +20,20 @@ pub(crate) enum Given {
     ByPrimary,
     /// The backup alone: no header of the primary one stands.
     WithoutHeader,
-    /// The backup alone: the primary one's array has another CRC.
-    WithoutArray,
+    /// The backup alone: the primary one's array has another CRC than its header says, which tells of so many entries.
+    WithoutArray(u32),
+}
+
+impl Given {
+    /// Whether its primary header, if one stands, tells of as many entries as a table may have.
+    pub(crate) fn is_counted(self) -> bool
+        ensures { IsTrue result ↔ IsCounted self }
+    {
+        match self {
+            Given::WithoutArray(told) => told >= 1 && told <= MOST_ENTRIES as u32,
+            _ => true,
+        }
+    }
 }
 
 /// The sectors that decide what a disk denotes whose table is given so.
@@ -59,12 +71,13 @@ fn add_given<const B: usize>(
     requires room { HasRoom B sectors }
     requires some { 1 ≤ count }
     requires few { count ≤ 128 }
+    requires counted { IsCounted given }
     ensures { OnOk result (Adds trace.old trace.new (GivenReads B sectors count given)) }
 {
     match given {
         Given::ByPrimary => return add_copy::<B>(trace, sectors, Side::Primary, count),
         Given::WithoutHeader => trace.add_one(header_at(Side::Primary, sectors))?,
-        Given::WithoutArray => add_copy::<B>(trace, sectors, Side::Primary, count)?,
+        Given::WithoutArray(told) => add_copy::<B>(trace, sectors, Side::Primary, told)?,
     }
     add_copy::<B>(trace, sectors, Side::Backup, count)
 }
@@ -81,6 +94,7 @@ pub(crate) fn deciding<const B: usize>(
     requires room { HasRoom B sectors }
     requires some { 1 ≤ count }
     requires few { count ≤ 128 }
+    requires counted { IsCounted given }
     ensures { IfOk result (IsDeciding B sectors body.now count given) }
 {
     let mut trace = Trace::new(alloc);
@@ -104,6 +118,7 @@ pub(crate) fn deciding_of<const B: usize>(
     requires room { HasRoom B sectors }
     requires some { 1 ≤ count }
     requires few { count ≤ 128 }
+    requires counted { IsCounted given }
     ensures known { All (λ k. IsDeciding B sectors body.now count k.given k.trace) known.old.items
         → OnOk result (All (λ k. IsDeciding B sectors body.now count k.given k.trace) known.new.items) }
     ensures ok { All (λ k. IsDeciding B sectors body.now count k.given k.trace) known.old.items

@@ -8,11 +8,10 @@ ghost use Rattle.pt_apply.specs.Plans.{NoneIs, phases_of, writes_in};
 ghost use Rattle.pt_check.specs.inner.Answers.{FirstWriteIs};
 ghost use Rattle.pt_check.specs.Answers.{FixedOf, InNoTable, InOwned};
 
-use crate::objection::{Found, Objection, first_in_plan};
 use crate::owned::owned_in_either;
 use crate::tables::tables_in_either;
 use crate::trial::Layouts;
-use crate::writes::count_writes;
+use crate::writes::{Found, Objection, count_writes, first_in_plan};
 use pt_apply::{Plan, Write};
 use pt_gpt::first_usable;
 use pt_layout::{Body, Layout};

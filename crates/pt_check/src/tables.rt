@@ -7,7 +7,7 @@ ghost use Rattle.pt_members.specs.Members.{IsPlace};
 ghost use Rattle.pt_members.specs.Tables.{IsTable, IsBodyTable, IsGptTable, TableOf};
 ghost use Rattle.pt_recover.specs.Spans.{IsIn, Adds};
 
-use crate::same::same_layout;
+use crate::denoted::same_layout;
 use crate::trial::Layouts;
 use pt_gpt::first_usable;
 use pt_mbr::Ebr;

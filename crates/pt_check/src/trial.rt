@@ -8,16 +8,15 @@ ghost use Rattle.pt_apply.specs.Plans.{writes_of, phases_of, writes_in, finished
 ghost use Rattle.pt_recover.specs.Denotes.{Denotes, Reads};
 ghost use Rattle.pt_recover.specs.Alike.{IsAlike};
 ghost use Rattle.pt_recover.specs.Spans.{IsIn};
-ghost use Rattle.pt_check.specs.Answers.{CheckReads, fault_in, FailedInCheck, IsRecoveredOf};
-ghost use Rattle.pt_check.specs.inner.Answers.{TouchedIs, current_of, KeepsRead, StepIs, LastIs, SettlesFrom, TrialIs};
+ghost use Rattle.pt_check.specs.Answers.{CheckReads, fault_in, FailedInCheck};
+ghost use Rattle.pt_check.specs.inner.Answers.{IsKnown, TouchedIs, current_of, KeepsRead, StepIs, LastIs, SettlesFrom, TrialIs};
 ghost use Rattle.pt_check.specs.inner.Following.{AreFollowed, IsStepped, StepFollowed};
 
 use crate::answer::Why;
+use crate::denoted::{read_denoted, same_layout};
 use crate::error::CheckError;
 use crate::following::{Followed, follow_recovered, follow_writes, still_decided};
-use crate::objection::{Objection, first_in_phase};
-use crate::recovered::{Recovered, read_layout};
-use crate::same::same_layout;
+use crate::writes::{Objection, first_in_phase};
 use pt_apply::{Plan, Write};
 use pt_gpt::LastArray;
 use pt_recover::{Layout, Trace, is_alike};
@@ -44,6 +43,16 @@ pub(crate) struct Layouts {
 impl Drop for Layouts {
     fn drop(self) {
         let Layouts { old: _, new: _ } = self;
+    }
+}
+
+impl Layouts {
+    /// The layout of the finished disk.
+    pub(crate) fn into_new(self) -> Option<Layout>
+        ensures { result ≡ self.new }
+    {
+        let Layouts { old: _, new } = self;
+        new
     }
 }
 
@@ -176,16 +185,6 @@ struct Stepped {
     trace: Trace,
 }
 
-impl Stepped {
-    fn new(step: Step, after: Recovered) -> Stepped
-        ensures step { result.step ≡ step }
-        ensures trace { result.trace ≡ after.trace }
-    {
-        let (_, trace) = after.into_parts();
-        Stepped { step, trace }
-    }
-}
-
 /// What the disk denotes after the phase of this number. The copies that are followed are followed on.
 fn step_on<const B: usize, D: Disk<B>>(
     alloc: Global,
@@ -206,20 +205,13 @@ fn step_on<const B: usize, D: Disk<B>>(
     ensures followed { D.tells → IfOk result
         (λ r. StepFollowed B (D.told disk.old).seen layouts.now.old layouts.now.new r.step followed.new) }
 {
-    let after = read_layout(alloc, disk, last)?;
-    let step = compare(&after.layout, layouts, switch, number);
+    let (denoted, trace) = read_denoted(alloc, disk, last)?;
+    let step = compare(&denoted, layouts, switch, number);
     let Step::Goes(now) = step else {
-        return Ok(Stepped::new(step, after));
+        return Ok(Stepped { step, trace });
     };
-    follow_recovered(
-        alloc,
-        disk,
-        &after.layout,
-        followed,
-        now == switch,
-        is_often,
-    )?;
-    Ok(Stepped::new(step, after))
+    follow_recovered(alloc, disk, &denoted, followed, now == switch, is_often)?;
+    Ok(Stepped { step, trace })
 }
 
 /// How many phases there are until no later one writes a sector of the trace.
@@ -284,9 +276,9 @@ pub(crate) fn try_phases<const B: usize, D: Disk<B>>(
 ) -> Result<Trial, CheckError>
     requires size { IsSectorSize B }
     requires room { count ≡ length (writes_in (phases_of plan.now)) }
-    requires old { D.tells → IsRecoveredOf B (D.told disk.old).seen (record { layout = layouts.now.old; trace = trace }) }
-    requires new { D.tells → IsRecoveredOf B (finished plan.now (D.told disk.old).seen)
-        (record { layout = layouts.now.new; trace = end.now }) }
+    requires old { D.tells → IsKnown B (D.told disk.old).seen layouts.now.old trace }
+    requires new { D.tells → IsKnown B (finished plan.now (D.told disk.old).seen)
+        layouts.now.new end.now }
     ensures same { OnlyReads D.Disk disk.old disk.new }
     ensures blames { Blames fault_in result (D.faults disk.old) (D.faults disk.new) }
     ensures place { D.tells → IfErr result (FailedInCheck (CheckReads B (D.told disk.old).seen (phases_of plan.now))) }

@@ -3,12 +3,11 @@ use Rattle.std.specs.Prelude.{◌≡◌, ℕ, ◌+◌, List, Option, Some, None,
 use Rattle.pt_sector.specs.Sectors.{Writes, Sectors, Puts}
 use Rattle.pt_recover.specs.Alike.{IsAlike}
 use Rattle.pt_apply.specs.Plans.{NoneIs, writes_in, InRange, phases_of}
-use Rattle.pt_check.specs.declared.objection.Found.{Found}
+use Rattle.pt_check.specs.declared.writes.Found.{Found}
 use Rattle.pt_check.specs.Answers.{IsFirst, FirstWrite, IsFit, most_writes, switch_number, Answers, InNoTable, InOwned, phase_at, Course}
 use Rattle.pt_check.specs.Answers.{IsCalm, IsNeither, ReadsSector}
 use Rattle.pt_apply.specs.declared.plan.Plan.{Plan}
 use Rattle.pt_layout.specs.declared.sound.finding.Finding.{Finding}
-use Rattle.pt_layout.specs.Healthy.{IsFinding, Healthy}
 use Rattle.pt_check.specs.declared.answer.Answer.{Answer}
 use Rattle.pt_check.specs.declared.answer.Answer.TheVariants.{No, Yes}
 use Rattle.pt_check.specs.declared.answer.Why.{Why}
@@ -19,6 +18,8 @@ use Rattle.pt_check.specs.declared.trial.Trial.{Trial}
 use Rattle.pt_check.specs.declared.trial.Trial.TheVariants.{Passed, Refused}
 use Rattle.pt_members.specs.declared.layout.Layout.{Layout}
 use Rattle.pt_sector.specs.declared.address.Lba.{Lba}
+use Rattle.pt_recover.specs.Denotes.{Denotes, IsTraceOf}
+use Rattle.pt_recover.specs.declared.trace.TracedRun.{TracedRun}
 use Rattle.pt_check.specs.declared.trial.Step.{Step}
 use Rattle.pt_check.specs.declared.trial.Step.TheVariants as step
 
@@ -39,11 +40,6 @@ NumberIs phases P None = NoneIs P (writes_in phases)
 NumberIs phases P (Some n) = FirstWrite phases P n
 
 -- ## What the checker's answer says of a disk with sectors of b bytes and the phases of a plan.
-
--- the first thing that is wrong with d, none where it is healthy
-abbrev pub WrongIs : ℕ → Sectors → Option Finding → Type 0
-WrongIs b d None = Healthy b d
-WrongIs b d (Some f) = IsFinding b d f
 
 -- writes that fit are as many as is reported, not too many, and each of a sector below n
 abbrev pub AreInRange : {b : _} → ℕ → Plan b → Judged → Type 0
@@ -129,3 +125,10 @@ module _ {L : Type 0} (denotes : Sectors → Option L → Type 0) (reads : Secto
   TrialIs old new (Refused (ReadSector p lba)) = RefusedRead old new p lba.0
   TrialIs old new (Refused (Neither p)) = RefusedNeither old new p
   TrialIs old new (Refused _) = ⊥
+
+-- ## What is known of a disk before a plan is tried.
+
+-- d denotes this, and the trace has the sectors that recovery of d reads
+pub record IsKnown (b : ℕ) (d : Sectors) (o : Option Layout) (trace : List TracedRun) : Type 0 where
+  pub denotes : Denotes b d o
+  pub reads : IsTraceOf b d trace

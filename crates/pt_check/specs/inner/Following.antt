@@ -1,5 +1,5 @@
 -- The copies of a table while phases are tried, and the sectors that decide what a disk denotes by them.
-use Rattle.std.specs.Prelude.{◌≡◌, ◌⊎◌, ◌↔◌, ℕ, List, length, Option, Some, None, IfSome, All}
+use Rattle.std.specs.Prelude.{◌≡◌, ◌≤◌, ◌⊎◌, ◌↔◌, ℕ, List, length, Option, Some, None, IfSome, All}
 use Rattle.pt_sector.specs.Sectors.{Sectors}
 use Rattle.pt_gpt.specs.Copies.{header_place, Copy, SideReads}
 use Rattle.pt_gpt.specs.declared.table.Side.TheVariants.{Primary, Backup}
@@ -24,11 +24,17 @@ use Rattle.pt_check.specs.inner.Answers.{StepIs, current_of}
 
 -- ## A table that one of its copies gives.
 
--- the sectors that decide the table, on n sectors, where its arrays have so many entries
+-- the sectors that decide the table, on n sectors: of a copy that gives it, those of so many entries; of one that is lost, its header's,
+-- and those of as many as that tells of
 abbrev pub GivenReads : ℕ → ℕ → ℕ → Given → ℕ → Type 0
 GivenReads b n count ByPrimary s = InCopy b n Primary count s
 GivenReads b n count WithoutHeader s = (s ≡ header_place Primary n) ⊎ InCopy b n Backup count s
-GivenReads b n count WithoutArray s = InCopy b n Primary count s ⊎ InCopy b n Backup count s
+GivenReads b n count (WithoutArray told) s = InCopy b n Primary told s ⊎ InCopy b n Backup count s
+
+-- the primary header that it knows of tells of as many entries as a table may have
+abbrev pub IsCounted : Given → Type 0
+IsCounted (WithoutArray told) = (1 ≤ told) × (told ≤ 128)
+IsCounted _ = Unit {0}
 
 -- the table of d is t, and is given so
 pub record IsGiven (b : ℕ) (d : Sectors) (t : Table) (g : Given) : Type 0 where

@@ -5,7 +5,7 @@ use Rattle.std.proofs.lemmas.Result.{err_from_is_err_and}
 use Rattle.pt_sector.specs.Sectors.{IsSectorSize, Writes}
 use Rattle.pt_apply.specs.Plans.{phases_of, writes_in, NoneIs}
 use Rattle.pt_check.specs.inner.Answers.{FirstWriteIs}
-use Rattle.pt_check.specs.declared.objection.Found.{Found}
+use Rattle.pt_check.specs.declared.writes.Found.{Found}
 use Rattle.pt_check.proofs.Firsts.{first_number}
 use Rattle.pt_sector.specs.declared.address.Lba.{Lba}
 use Rattle.pt_check.proofs.Reading.{head_written}

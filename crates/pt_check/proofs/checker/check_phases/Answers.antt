@@ -1,36 +1,37 @@
-use Rattle.std.proofs.Common.{rules, ◌∙◌, List, sym, ap, subst}
+use Rattle.std.proofs.Common.{rules, ◌∙◌, List, sym, ap}
 use Rattle.std.proofs.lemmas.Result.{err_from_is_err_and}
 use Rattle.pt_sector.specs.Device.{with_fault, Told}
+use Rattle.pt_sector.specs.Sectors.{Sectors}
 use Rattle.pt_apply.specs.Plans.{phases_of, finished}
 use Rattle.pt_recover.specs.Denotes.{Denotes}
 use Rattle.pt_sector.specs.declared.disk.Fault.{Fault}
-use Rattle.pt_check.specs.Answers.{fault_in, IsRecoveredOf}
+use Rattle.pt_layout.specs.Surveys.{IsSurvey}
+use Rattle.pt_check.specs.Answers.{fault_in}
 use Rattle.pt_check.proofs.Exits.{concluding}
-use Rattle.pt_check.proofs.Outside.{recovered_parts}
+use Rattle.pt_check.proofs.Finishing.{found_layout, leads, survey_known, survey_wrong}
 use Rattle.pt_check.proofs.Reading.{finish_failed}
 use Rattle.pt_check.proofs.checker.check_phases.Goals as goal
 
-pub returns-clause-answers : goal.returns-clause-answers
-returns-clause-answers g c = λ tells.
-    let from : Denotes g.row.B (g.D.Disk.told c.args.disk.now).seen c.into_parts-old.result.0 =
-    rw c.into_parts-old.ensures.layout (c.requires.known tells).denotes in
-    rw c.conclude.ensures (concluding g.row.B (g.D.Disk.told c.args.disk.now).seen (phases_of c.args.plan.now)
-    (c.requires.fit tells) c.into_parts-old.result.0 c.in_ok-end.end.layout
-    (record { from = from; to = (c.in_ok-end.ensures.recovered tells).denotes }) c.in_ok-trial.trial
-    c.in_ok-misplaced.misplaced c.in_ok-end.end.finding
-    (rw (c.in_ok-end.ensures.same.same tells) at (c.in_ok-trial.ensures.tried tells)) c.in_ok-misplaced.ensures
-    (c.in_ok-end.ensures.wrong tells)).0
+pub returns-clause-outcome : goal.returns-clause-outcome
+returns-clause-outcome g c = λ tells.
+    let d : Sectors = (g.D.Disk.told c.args.disk.now).seen in
+    let x = c.in_ok-end.end in
+    let read : IsSurvey g.row.B (finished c.args.plan.now d) x = c.in_ok-end.ensures.survey tells in
+    let from : Denotes g.row.B d c.args.old = (c.requires.known tells).denotes in
+    let both = concluding g.row.B d (phases_of c.args.plan.now)
+    (c.requires.fit tells) c.args.old x.layout (record { from = from; to = read.layout }) c.in_ok-trial.trial
+    c.in_ok-misplaced.misplaced x.finding
+    (rw (c.in_ok-end.ensures.same.same tells, c.into_parts-new.ensures) at (c.in_ok-trial.ensures.tried tells))
+    (rw c.into_parts-new.ensures at c.in_ok-misplaced.ensures) (survey_wrong g.row.B _ x.layout x.finding read.finding) in
+    record {
+      answers = rw (c.conclude.ensures.answer, c.into_parts-new.ensures) both.0;
+      promises = rw (c.conclude.ensures.answer, c.into_parts-new.ensures) both.1;
+      layout = λ o is. leads g.row.B _ x.layout o
+          (rw (c.into_new.ensures, c.into_parts-new.ensures) at (c.conclude.ensures.layout o is)) read.layout;
+    }
 
-pub returns-clause-promises : goal.returns-clause-promises
-returns-clause-promises g c = λ tells.
-    let from : Denotes g.row.B (g.D.Disk.told c.args.disk.now).seen c.into_parts-old.result.0 =
-    rw c.into_parts-old.ensures.layout (c.requires.known tells).denotes in
-    rw c.conclude.ensures (concluding g.row.B (g.D.Disk.told c.args.disk.now).seen (phases_of c.args.plan.now)
-    (c.requires.fit tells) c.into_parts-old.result.0 c.in_ok-end.end.layout
-    (record { from = from; to = (c.in_ok-end.ensures.recovered tells).denotes }) c.in_ok-trial.trial
-    c.in_ok-misplaced.misplaced c.in_ok-end.end.finding
-    (rw (c.in_ok-end.ensures.same.same tells) at (c.in_ok-trial.ensures.tried tells)) c.in_ok-misplaced.ensures
-    (c.in_ok-end.ensures.wrong tells)).1
+pub conclude-requires : goal.conclude-requires
+conclude-requires g c = rw (c.into_new.ensures, c.into_parts-new.ensures) (found_layout c.in_ok-end.end c.in_ok-end.ensures.tells)
 
 pub try_phases-requires : goal.try_phases-requires
 try_phases-requires g c = (
@@ -40,11 +41,9 @@ try_phases-requires g c = (
     (
       c.requires.room,
       (
-        (λ tells. recovered_parts g.row.B _ _ c.args.before _ _ (ap (λ (t : Told). t.seen) (sym (c.in_ok-end.ensures.same.same tells)))
-            (c.requires.known tells) c.into_parts-old.ensures.layout c.into_parts-old.ensures.trace),
-        (λ tells. subst (λ (t : Told). IsRecoveredOf g.row.B (finished c.args.plan.now t.seen)
-            (record { layout = c.in_ok-end.end.layout; trace = c.in_ok-end.end.trace }))
-            (sym (c.in_ok-end.ensures.same.same tells)) (c.in_ok-end.ensures.recovered tells)),
+        (λ tells. rw (c.in_ok-end.ensures.same.same tells) (c.requires.known tells)),
+        (λ tells. rw (c.into_parts-new.ensures, c.in_ok-end.ensures.same.same tells)
+            (survey_known g.row.B _ c.in_ok-end.end (c.in_ok-end.ensures.survey tells))),
       ),
     ),
   ),

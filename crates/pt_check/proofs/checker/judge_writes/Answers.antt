@@ -3,7 +3,7 @@ use Rattle.pt_sector.specs.Sectors.{Writes}
 use Rattle.pt_apply.specs.Plans.{phases_of, writes_in, NoneIs}
 use Rattle.pt_check.specs.Answers.{IsFirst, FirstWrite}
 use Rattle.pt_check.specs.inner.Answers.{FirstWriteIs}
-use Rattle.pt_check.specs.declared.objection.Found.{Found}
+use Rattle.pt_check.specs.declared.writes.Found.{Found}
 use Rattle.pt_check.proofs.Exits.{outside, boot}
 use Rattle.pt_check.proofs.Ranges.{in_range}
 use Rattle.std.proofs.lemmas.Result.{err_from_is_err_and}

@@ -41,15 +41,10 @@ returns-clause-blames g c =
     ∙ ap g.D.Disk.faults (c.put_plan.ensures.disk ∙ c.new-over.ensures.disk) in
     search (rules, quiet)
 
-pub returns-clause-recovered : goal.returns-clause-recovered
-returns-clause-recovered g c = λ tells. c.finished_of.ensures.recovered _ _
-    (subst (λ (d : Sectors). IsSurvey g.row.B d c.in_ok-told.told)
-    (c.put_plan.ensures.seen ∙ ap (after (phases_of c.args.plan.now)) c.new-over.ensures.seen) (c.in_ok-told.ensures.ok tells))
-
-pub returns-clause-wrong : goal.returns-clause-wrong
-returns-clause-wrong g c = λ tells. c.finished_of.ensures.wrong _ _
-    (subst (λ (d : Sectors). IsSurvey g.row.B d c.in_ok-told.told)
-    (c.put_plan.ensures.seen ∙ ap (after (phases_of c.args.plan.now)) c.new-over.ensures.seen) (c.in_ok-told.ensures.ok tells))
+pub returns-clause-survey : goal.returns-clause-survey
+returns-clause-survey g c = λ tells.
+    subst (λ (d : Sectors). IsSurvey g.row.B d c.in_ok-told.told)
+    (c.put_plan.ensures.seen ∙ ap (after (phases_of c.args.plan.now)) c.new-over.ensures.seen) (c.in_ok-told.ensures.ok tells)
 
 pub returns-in_err-told-clause-blames : goal.returns-in_err-told-clause-blames
 returns-in_err-told-clause-blames g c =

@@ -19,8 +19,8 @@ returns-in_err-followed-in-None-clause-place g c = λ tells.
     rw (p.1, p.2) (check_wider (SideReads g.row.B d Primary) (Reads g.row.B d) c.in_err-followed-in-None.field-0.0
     (primary_read g.row.B d c.in-Some.layout c.in-Gpt.table c.in-Gpt.is denotes) (c.in_err-followed-in-None.ensures.place tells))
 
-pub returns-in-Some-followed-clause-place : goal.returns-in-Some-followed-clause-place
-returns-in-Some-followed-clause-place g c = λ tells.
+pub returns-else-is_short-clause-place : goal.returns-else-is_short-clause-place
+returns-else-is_short-clause-place g c = λ tells.
     let d = (g.D.Disk.told c.args.disk.now).seen in
     let denotes = subst (λ (o : Option Layout). Denotes g.row.B d o) c.in-Some.is (c.requires.denoted tells) in
     let here = followed_of g.row.B d c.args.layout.now c.args.followed.now c.in-Some.layout c.in-Gpt.table c.in-Some-followed.copies
@@ -30,8 +30,8 @@ returns-in-Some-followed-clause-place g c = λ tells.
     (lost_read g.row.B d c.in-Some.layout c.in-Gpt.table c.in-Gpt.is denotes) is)
     (c.add_backup.ensures.place tells here.copies)
 
-pub returns-in-Some-followed-clause-followed : goal.returns-in-Some-followed-clause-followed
-returns-in-Some-followed-clause-followed g c = λ tells.
+pub returns-else-is_short-clause-followed : goal.returns-else-is_short-clause-followed
+returns-else-is_short-clause-followed g c = λ tells.
     let d = (g.D.Disk.told c.args.disk.now).seen in
     let here = followed_of g.row.B d c.args.layout.now c.args.followed.now c.in-Some.layout c.in-Gpt.table c.in-Some-followed.copies
     c.in-Some.is c.in-Gpt.is c.in-Some-followed.is (c.requires.followed tells) in
@@ -44,3 +44,27 @@ returns-in-Some-followed-clause-followed g c = λ tells.
           c.in-Some-followed.copies c.add_backup.new.self refl here copies c.add_backup.ensures.deciding,
     ))
     (c.add_backup.ensures.ok tells here.copies)
+
+pub returns-then-is_short-clause-place : goal.returns-then-is_short-clause-place
+returns-then-is_short-clause-place g c = λ tells.
+    let d = (g.D.Disk.told c.args.disk.now).seen in
+    let denotes = subst (λ (o : Option Layout). Denotes g.row.B d o) c.in-Some.is (c.requires.denoted tells) in
+    IfErr-weaker c.renew_primary.result (FailedInCheck (SideReads g.row.B d Primary)) (FailedInCheck (Reads g.row.B d))
+    (λ e is. check_wider (SideReads g.row.B d Primary) (Reads g.row.B d) e
+    (primary_read g.row.B d c.in-Some.layout c.in-Gpt.table c.in-Gpt.is denotes) is)
+    (c.renew_primary.ensures.place tells)
+
+pub returns-then-is_short-clause-followed : goal.returns-then-is_short-clause-followed
+returns-then-is_short-clause-followed g c = λ tells.
+    let d = (g.D.Disk.told c.args.disk.now).seen in
+    let here = followed_of g.row.B d c.args.layout.now c.args.followed.now c.in-Some.layout c.in-Gpt.table c.in-Some-followed.copies
+    c.in-Some.is c.in-Gpt.is c.in-Some-followed.is (c.requires.followed tells) in
+    on_ok c.renew_primary.result _ _
+    (λ copies. (
+      c.in-Some.layout,
+      c.in-Gpt.table,
+      c.in-Some.is,
+      followed_on g.row.B d d c.in-Some.layout c.in-Gpt.table
+          c.in-Some-followed.copies c.renew_primary.new.self refl here copies c.renew_primary.ensures.deciding,
+    ))
+    (c.renew_primary.ensures.ok tells here.copies)

@@ -3,7 +3,7 @@ use Rattle.std.specs.Option.{is_some}
 use Rattle.pt_sector.specs.Sectors.{Writes}
 use Rattle.pt_apply.specs.Plans.{phases_of, writes_in, NoneIs}
 use Rattle.pt_check.specs.inner.Answers.{FirstWriteIs}
-use Rattle.pt_check.specs.declared.objection.Found.{Found}
+use Rattle.pt_check.specs.declared.writes.Found.{Found}
 use Rattle.pt_check.proofs.Clear.{none_moves, first_outside}
 use Rattle.pt_check.proofs.places.first_stray.Goals as goal
 

@@ -11,4 +11,4 @@ returns-in_err-self-clause-place g c = λ tells copies.
     let p = err_from_is_err_and c.from_residual.result c.from_residual.ensures.1 in
     let d = (g.D.Disk.told c.args.disk.now).seen in
     rw (p.1, p.2) (check_wider (SideReads g.row.B d Backup) (IsLostSide g.row.B d) c.in_err-self.field-0.0
-    (λ s read. (c.if-not-has_lost.ensures g.row.B d c.requires.size copies.primary refl, read)) (c.in_err-self.ensures.place tells))
+    (λ s read. (c.if-not-has_lost.ensures d copies.primary refl, read)) (c.in_err-self.ensures.place tells))

@@ -2,4 +2,4 @@ use Rattle.std.proofs.Common.{refl}
 use Rattle.pt_check.proofs.following.Followed.by_backup.Goals as goal
 
 pub returns : goal.returns
-returns c = λ b d size follows. (refl, c.gives.ensures b d size follows c.if-not-gives.false)
+returns g c = λ d follows. (refl, c.gives.ensures d follows c.if-not-gives.false)

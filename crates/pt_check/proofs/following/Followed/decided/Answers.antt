@@ -21,6 +21,6 @@ returns-clause-decided g c = λ d is.
     is.deciding in
     let found = c.in_ok-trace.ensures.ok old in (
       c.in-Some.given,
-      c.in-Some.ensures g.row.B d c.requires is.copies,
+      c.in-Some.ensures d is.copies,
       runs_as g.row.B _ _ c.args.layout.now.body _ _ c.in-Some.given c.in_ok-trace.trace is.sectors c.len-count.ensures found,
     )

@@ -9,20 +9,23 @@ use Rattle.pt_check.proofs.ByCopies.{given_primary, given_without_header, given_
 use Rattle.pt_check.proofs.following.Followed.given.Goals as goal
 
 pub returns-in-Gives : goal.returns-in-Gives
-returns-in-Gives c = λ b d size copies. given_primary b d c.args.table.now (c.in-Gives.ensures b d Primary size copies.primary)
+returns-in-Gives g c = λ d copies. given_primary g.row.B d c.args.table.now (c.in-Gives.ensures d Primary copies.primary)
 
 pub returns-in-LostHead : goal.returns-in-LostHead
-returns-in-LostHead c = λ b d size copies.
+returns-in-LostHead g c = λ d copies.
+    let b = g.row.B in
     let t = c.args.table.now in
-    some_as (λ (g : Given). (g ≡ WithoutHeader) × StandingIs b d Backup t Gives) (IsGiven b d t) c.by_backup.result
-    (λ g is. subst (IsGiven b d t) (sym is.0)
-    (given_without_header b d t (c.in-LostHead.ensures b d Primary size copies.primary) is.1))
-    (c.by_backup.ensures b d size copies.backup)
+    some_as (λ (x : Given). (x ≡ WithoutHeader) × StandingIs b d Backup t Gives) (IsGiven b d t) c.by_backup.result
+    (λ x is. subst (IsGiven b d t) (sym is.0)
+    (given_without_header b d t (c.in-LostHead.ensures d Primary copies.primary) is.1))
+    (c.by_backup.ensures d copies.backup)
 
 pub returns-in-LostArray : goal.returns-in-LostArray
-returns-in-LostArray c = λ b d size copies.
+returns-in-LostArray g c = λ d copies.
+    let b = g.row.B in
     let t = c.args.table.now in
-    some_as (λ (g : Given). (g ≡ WithoutArray) × StandingIs b d Backup t Gives) (IsGiven b d t) c.by_backup-in-LostArray.result
-    (λ g is. subst (IsGiven b d t) (sym is.0)
-    (given_without_array b d t (c.in-LostArray.ensures b d Primary size copies.primary) is.1))
-    (c.by_backup-in-LostArray.ensures b d size copies.backup)
+    let told = c.in-LostArray.told in
+    some_as (λ (x : Given). (x ≡ WithoutArray told) × StandingIs b d Backup t Gives) (IsGiven b d t) c.by_backup-in-LostArray.result
+    (λ x is. subst (IsGiven b d t) (sym is.0)
+    (given_without_array b d t told (c.in-LostArray.ensures d Primary copies.primary) is.1))
+    (c.by_backup-in-LostArray.ensures d copies.backup)

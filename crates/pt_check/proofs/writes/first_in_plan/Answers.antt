@@ -1,6 +1,6 @@
 use Rattle.std.proofs.Common.{◌+◌, ℕ, ap, length, arith, refl}
 use Rattle.pt_check.proofs.Firsts.{writes_on, count_on, sum_within, first_of_all, first_within, none_both, pair_at}
-use Rattle.pt_check.proofs.objection.first_in_plan.Goals as goal
+use Rattle.pt_check.proofs.writes.first_in_plan.Goals as goal
 
 pub index-requires : goal.index-requires
 index-requires g c =

@@ -1,6 +1,6 @@
 use Rattle.std.proofs.Common.{rules}
 use Rattle.pt_check.proofs.Firsts.{write_at, none_more, none_past, all_below}
-use Rattle.pt_check.proofs.objection.first_in_phase.Goals as goal
+use Rattle.pt_check.proofs.writes.first_in_phase.Goals as goal
 
 pub loop-k-preserved : goal.loop-k-preserved
 loop-k-preserved g c = none_more (g.T.Objection.against c.args.objection.now) _ c.loop-k.k _ c.loop-k.invariant
