@@ -9,8 +9,8 @@ use Rattle.pt_bsd.specs.declared.label.Label.{Label}
 use Rattle.pt_members.specs.declared.layout.Slice.{Slice}
 use Rattle.pt_cases.specs.declared.targets.target.Target.{Target}
 use Rattle.pt_planner.specs.declared.places.place.Place.{Place}
-use Rattle.pt_planner.specs.declared.places.answer.LabelTargets.{LabelTargets}
-use Rattle.pt_planner.specs.declared.places.answer.LabelTargets.TheVariants.{Misplaced, Foreign, Unreadable, Targets}
+use Rattle.pt_planner.specs.declared.places.LabelTargets.{LabelTargets}
+use Rattle.pt_planner.specs.declared.places.LabelTargets.TheVariants.{Misplaced, Foreign, Unreadable, Targets}
 use Rattle.pt_planner.specs.inner.Places.{HadBytes, IsBytes, stood, other, fresh, IsTarget, keeps, changes, sets}
 use Rattle.pt_planner.specs.inner.Places.{IsTargetOf, IsStuck, AreTargets, HasNone, AnswerOf}
 use Rattle.pt_planner.proofs.Pieces.{NotHad}

@@ -20,7 +20,7 @@ use Rattle.pt_cases.specs.Targets.{Targeted, IsPlaceTarget, AreNewWrites, InSect
 use Rattle.pt_cases.specs.declared.targets.target.Target.{Target}
 use Rattle.pt_planner.specs.inner.Phases.{Alters}
 use Rattle.pt_planner.specs.Phases.{CopiesStart}
-use Rattle.pt_planner.specs.declared.phases.order.Order.{Order}
+use Rattle.pt_planner.specs.declared.phases.copies.Order.{Order}
 use Rattle.pt_planner.proofs.Labels.{reads_is}
 
 module _ {b : ℕ} (d : Sectors) (o : Option Layout) (p : Layout) (t : Table) (chosen : Order b) (guarded : List TracedRun)

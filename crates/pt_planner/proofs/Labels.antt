@@ -31,8 +31,8 @@ use Rattle.pt_cases.specs.Targets.{Targeted, IsPlaceTarget, AreNewWrites, InSect
 use Rattle.pt_cases.specs.declared.targets.target.TargetKind.TheVariants.{Stays, New, Changes}
 use Rattle.pt_cases.specs.declared.targets.target.Target.{Target}
 use Rattle.pt_planner.specs.Phases.{CopiesStart, OrderIs}
-use Rattle.pt_planner.specs.declared.phases.order.Order.{Order}
-use Rattle.pt_planner.specs.declared.phases.order.Order.TheVariants.{BackupFirst, PrimaryFirst, FromMbr}
+use Rattle.pt_planner.specs.declared.phases.copies.Order.{Order}
+use Rattle.pt_planner.specs.declared.phases.copies.Order.TheVariants.{BackupFirst, PrimaryFirst, FromMbr}
 
 -- a slice whose place a sector is, with its label or with none
 record GoesAt (P : Slice → Option Label → Type 0) (ps : List Slice) (labels : List Labelled) (s : ℕ) : Type 0 where

@@ -8,7 +8,6 @@ pub mod Every
 mod Failing
 mod Heads
 pub mod KeptPlans
-mod Knowing
 pub mod LabelTurn
 pub mod Labels
 pub mod Lifts
@@ -33,6 +32,7 @@ pub mod Shapes
 pub mod Sides
 pub mod Standing
 pub mod Sums
+mod Surveyed
 pub mod Touching
 pub mod TurnShapes
 pub mod Turning

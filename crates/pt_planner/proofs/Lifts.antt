@@ -20,8 +20,8 @@ use Rattle.pt_cases.specs.Unplanned.{LabelsFit, IsFirstLeft, HasUnreadable, None
 use Rattle.pt_planner.specs.Places.{PlacesAnswer, AreWithin}
 use Rattle.pt_planner.specs.inner.Places.{IsAt, IsRead, IsLeftAt, IsFirstAt, OldAre, HadAt, IsOfPlace, IsBytes, stood, other, fresh}
 use Rattle.pt_planner.specs.inner.Places.{IsTarget, keeps, changes, sets, IsTargetOf, AreTargets, HasNone, NoneIsLeft, AnswerOf}
-use Rattle.pt_planner.specs.declared.places.answer.LabelTargets.{LabelTargets}
-use Rattle.pt_planner.specs.declared.places.answer.LabelTargets.TheVariants.{Misplaced, Foreign, Unreadable, Targets}
+use Rattle.pt_planner.specs.declared.places.LabelTargets.{LabelTargets}
+use Rattle.pt_planner.specs.declared.places.LabelTargets.TheVariants.{Misplaced, Foreign, Unreadable, Targets}
 use Rattle.pt_planner.specs.declared.places.place.Place.{Place}
 use Rattle.pt_planner.proofs.Lists.{slices_in, labels_in, first_in, along_places, low_in, one_place, rise_split, slice_in, label_in}
 use Rattle.pt_planner.proofs.Lists.{place_in, pair_left, pair_right, pair_count}

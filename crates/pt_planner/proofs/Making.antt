@@ -13,7 +13,8 @@ use Rattle.pt_members.specs.declared.layout.Body.TheVariants.{Mbr, Gpt}
 use Rattle.pt_members.specs.declared.layout.Layout.{Layout}
 use Rattle.pt_layout.specs.Healthy.{IsBodyBroken, IsLayoutFinding, IsHealthy, IsBodyWhole}
 use Rattle.pt_layout.specs.Sound.{Sound}
-use Rattle.pt_layout.specs.Surveys.{HeadOf}
+use Rattle.pt_layout.specs.Surveys.{HeadOf, FindingIs, IsSurvey}
+use Rattle.pt_layout.specs.declared.survey.Survey.{Survey}
 use Rattle.pt_layout.specs.declared.sound.finding.Finding.{Finding}
 use Rattle.pt_layout.specs.declared.sound.finding.Finding.TheVariants as finding
 use Rattle.pt_layout.specs.declared.health.Head.{Head}
@@ -23,17 +24,15 @@ use Rattle.pt_cases.specs.Writes.{FitsTable, IsLoneChain}
 use Rattle.pt_cases.specs.Unplanned.{NoneLeft, HasNoTurn, HasNoCopies, Start, StopsBy, other_disk, misplaced, targets, unreadable, turn}
 use Rattle.pt_cases.specs.Unplanned.{copies, Unplanned}
 use Rattle.pt_planner.specs.Phases.{OrderIs, HeadAsRead, HeadIn, CopiesStart, MbrStart, LabelStart, Unbroken}
-use Rattle.pt_planner.specs.declared.phases.order.Order.{Order}
+use Rattle.pt_planner.specs.declared.phases.copies.Order.{Order}
 use Rattle.pt_cases.specs.Targets.{AreLabelTargets, AreMbrTargets}
 use Rattle.pt_cases.specs.declared.targets.error.PlanError.{PlanError}
 use Rattle.pt_cases.specs.declared.targets.error.PlanError.TheVariants.{NotOneSwitch, ReusedInOneBatch, NeedsRepair, Unsound, Device}
 use Rattle.pt_cases.specs.declared.targets.error.PlanError.TheVariants.{Memory}
 use Rattle.pt_cases.specs.declared.targets.target.Target.{Target}
-use Rattle.pt_planner.specs.PlanReads.{KnownWrong, IsKnown}
 use Rattle.pt_planner.specs.inner.PlanReads.{IsBrokenBy, PlainOrder, OrderOf, PlacesStop, IsMbrChange}
 use Rattle.pt_planner.specs.declared.state.MbrChange.{MbrChange}
 use Rattle.pt_cases.specs.inner.Unplanned.{Hindered}
-use Rattle.pt_planner.specs.declared.known.Known.{Known}
 
 pub ok_so : {A E : Type 0} (r : Result A E) (P Q : A → Type 0) → ((x : A) → P x → Q x) → IfOk r P → IfOk r Q
 ok_so (Ok x) P Q so is = so x is
@@ -86,7 +85,7 @@ module _ (b : ℕ) (d : Sectors) (o : Layout) (from : Denotes b d (Some o)) wher
       → (q : Layout) × Denotes b d (Some q) × L q → broken ≡ false → Unbroken b d o broken
   whole_here L broken whole (q, is, more) so = rw so (subst (λ (l : Layout). IsBodyWhole b d l.body) (same_here q is) (whole q more))
 
-  unbroken_by : (finding : Option Finding) (broken : Bool) → KnownWrong b d (Some o) finding → IsBrokenBy finding broken
+  unbroken_by : (finding : Option Finding) (broken : Bool) → FindingIs b d (Some o) finding → IsBrokenBy finding broken
       → Unbroken b d o broken
   unbroken_by None broken healthy so = rw so healthy.whole
   unbroken_by (Some (finding.NoTable e)) broken is so =
@@ -107,16 +106,16 @@ module _ (b : ℕ) (d : Sectors) (o : Layout) (from : Denotes b d (Some o)) wher
   unbroken_by (Some (finding.ForeignLabel q)) broken is so =
       whole_here (λ l. IsLayoutFinding b d l (finding.ForeignLabel q)) broken (λ l more. more.0) is so
 
-pub label_start : {b : ℕ} (d : Sectors) (x : Known) (p : Layout) (t : Table) (broken : Bool) (places : List (Target b)) → IsKnown b d x
-    → Start b d x.old p → p.body ≡ Gpt t → ChangesLabels x.old p
-    → IsBrokenBy x.finding broken → AreLabelTargets d x.old p places → LabelStart d x.old p broken places
-label_start {b = b} d x p t broken places known start body changes is are = record {
+pub label_start : {b : ℕ} (d : Sectors) (x : Survey) (p : Layout) (t : Table) (broken : Bool) (places : List (Target b)) → IsSurvey b d x
+    → Start b d x.layout p → p.body ≡ Gpt t → ChangesLabels x.layout p
+    → IsBrokenBy x.finding broken → AreLabelTargets d x.layout p places → LabelStart d x.layout p broken places
+label_start {b = b} d x p t broken places survey start body changes is are = record {
   start = start;
   table = t;
   body = body;
   changes = changes;
-  unbroken = unbroken_by b d changes.old (subst (Denotes b d) changes.is_old known.old) x.finding broken
-      (subst (λ (o : Option Layout). KnownWrong b d o x.finding) changes.is_old known.finding) is;
+  unbroken = unbroken_by b d changes.old (subst (Denotes b d) changes.is_old survey.layout) x.finding broken
+      (subst (λ (o : Option Layout). FindingIs b d o x.finding) changes.is_old survey.finding) is;
   places = are;
 }
 
@@ -143,18 +142,18 @@ head_by d head.Mbr primary order is so = rw so refl
 head_by d head.Protected primary order is so = plain_head d primary None order so is.1
 head_by d head.Unprotected primary order is so = plain_head d primary (Some (sector d 0)) order so refl
 
-pub copies_start : {b : ℕ} (d : Sectors) (x : Known) (p : Layout) (t : Table) (order : Order b) (places : List (Target b))
-    → IsKnown b d x → Start b d x.old p → p.body ≡ Gpt t
-    → FitsTable b (length d) t → ¬ ChangesLabels x.old p → OrderOf d x.head x.primary order
-    → AreLabelTargets d x.old p places → CopiesStart d x.old p t order x.guarded places
-copies_start {b = b} d x p t order places known start body fits other so are = record {
+pub copies_start : {b : ℕ} (d : Sectors) (x : Survey) (p : Layout) (t : Table) (order : Order b) (places : List (Target b))
+    → IsSurvey b d x → Start b d x.layout p → p.body ≡ Gpt t
+    → FitsTable b (length d) t → ¬ ChangesLabels x.layout p → OrderOf d x.head x.primary order
+    → AreLabelTargets d x.layout p places → CopiesStart d x.layout p t order x.guarded places
+copies_start {b = b} d x p t order places survey start body fits other so are = record {
   start = start;
   body = body;
   fits = fits;
   other = other;
-  order = order_by b d x.head x.primary order known.head (λ plain. known.primary plain fits.room) so;
-  head = head_by d x.head x.primary order known.head so;
-  guards = known.guarded;
+  order = order_by b d x.head x.primary order survey.head (λ plain. survey.primary plain fits.room) so;
+  head = head_by d x.head x.primary order survey.head so;
+  guards = survey.guarded;
   places = are;
 }
 
@@ -167,19 +166,19 @@ had_mbr n o c is = record {
   body = is.old_body;
 }
 
-pub mbr_start : {b : ℕ} (d : Sectors) (n : ℕ) (x : Known) (p : Layout) (c : MbrChange) (heads places : List (Target b))
-    → length d ≡ n → IsKnown b d x → Start b d x.old p → (is : IsMbrChange n x.old c) → p.body ≡ Mbr c.records.now c.chain.now
+pub mbr_start : {b : ℕ} (d : Sectors) (n : ℕ) (x : Survey) (p : Layout) (c : MbrChange) (heads places : List (Target b))
+    → length d ≡ n → IsSurvey b d x → Start b d x.layout p → (is : IsMbrChange n x.layout c) → p.body ≡ Mbr c.records.now c.chain.now
     → length c.records.now ≡ 4 → AreMbrTargets d c.old_records.now c.old_chain.now c.records.now c.chain.now heads
-    → AreLabelTargets d x.old p places → MbrStart d x.old p x.guarded heads places
-mbr_start d n x p c heads places count known start is body four are labels = record {
+    → AreLabelTargets d x.layout p places → MbrStart d x.layout p x.guarded heads places
+mbr_start d n x p c heads places count survey start is body four are labels = record {
   start = start;
-  was = had_mbr n x.old c is;
+  was = had_mbr n x.layout c is;
   records = c.records.now;
   chain = c.chain.now;
   body = body;
   four = four;
   linked = subst (λ (k : ℕ). IsLoneChain k (extended_of c.records.now) c.chain.now) (sym count) is.linked;
-  guards = known.guarded;
+  guards = survey.guarded;
   heads = are;
   places = labels;
 }

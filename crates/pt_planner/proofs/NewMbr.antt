@@ -27,9 +27,10 @@ use Rattle.pt_cases.specs.Writes.{one_write}
 use Rattle.pt_cases.proofs.NewMbr.{emptied_is_alone}
 use Rattle.pt_cases.proofs.Frames.{one_is}
 use Rattle.pt_members.specs.declared.layout.Layout.{Layout}
-use Rattle.pt_planner.specs.PlanReads.{IsKnown, MakeReads, PlanReads, PlanReadsBy, head}
+use Rattle.pt_layout.specs.Surveys.{IsSurvey}
+use Rattle.pt_layout.specs.declared.survey.Survey.{Survey}
+use Rattle.pt_planner.specs.PlanReads.{MakeReads, PlanReads, PlanReadsBy, head}
 use Rattle.pt_planner.specs.inner.NewMbr.{AddsZeroes, IsFirstMbr, IsFree, IsHeld, IsOr}
-use Rattle.pt_planner.specs.declared.known.Known.{Known}
 use Rattle.pt_sector.specs.inner.ForFields.{length-written}
 
 -- ## The phases before the last, as they are lent.
@@ -79,11 +80,11 @@ no_items (p ∷ ps) none = absurd cc
 
 -- ## The whole plan, and why there is none.
 
-module _ (b n : ℕ) (d : Sectors) (x : Known) (p : Layout) (known : IsKnown b d x) (first : IsFirstMbr n x.old p)
+module _ (b n : ℕ) (d : Sectors) (x : Survey) (p : Layout) (survey : IsSurvey b d x) (first : IsFirstMbr n x.layout p)
     (count : length d ≡ n) where
-  pub makes_mbr : MakesMbr b d x.old p
+  pub makes_mbr : MakesMbr b d x.layout p
   makes_mbr = record {
-    from = known.old;
+    from = survey.layout;
     some = subst (λ (m : ℕ). 0 < m) (sym count) first.some;
     records = first.records;
     chain = first.chain;
@@ -91,33 +92,33 @@ module _ (b n : ℕ) (d : Sectors) (x : Known) (p : Layout) (known : IsKnown b d
     other = first.other;
   }
 
-  pub held_of : (turning : List Writes) (e : PlanError) → IsTurning b d p turning → IsHeld b x.old x.trace turning e
+  pub held_of : (turning : List Writes) (e : PlanError) → IsTurning b d p turning → IsHeld b x.layout x.trace turning e
       → UnplannedKept b d p e
-  held_of turning ReusedInOneBatch turns owned = no_mbr x.old makes_mbr (reused refl turning turns owned)
+  held_of turning ReusedInOneBatch turns owned = no_mbr x.layout makes_mbr (reused refl turning turns owned)
   held_of turning NotOneSwitch turns (free, touched) =
-      no_mbr x.old makes_mbr (early refl turning turns free
-      (touched.0, touched.1, touched.2, (known.trace touched.0).0 touched.3))
+      no_mbr x.layout makes_mbr (early refl turning turns free
+      (touched.0, touched.1, touched.2, (survey.trace touched.0).0 touched.3))
   held_of turning NeedsRepair turns none = absurd none
   held_of turning (Unsound f) turns none = absurd none
   held_of turning (Device fault) turns none = absurd none
   held_of turning Memory turns none = absurd none
 
   pub unturned_of : (e : PlanError) → Unplanned b (emptied d) p e → UnplannedKept b d p e
-  unturned_of e is = no_mbr x.old makes_mbr (unturned is)
+  unturned_of e is = no_mbr x.layout makes_mbr (unturned is)
 
-  pub new_mbr_of : (turning mid now : List Writes) → IsTurning b d p turning → IsFree b x.old x.trace turning
-      → AddsZeroes b d x.old p 1 turning mid → AddsZeroes b d x.old p (n - 1) mid now → IsNewMbr b d p now
+  pub new_mbr_of : (turning mid now : List Writes) → IsTurning b d p turning → IsFree b x.layout x.trace turning
+      → AddsZeroes b d x.layout p 1 turning mid → AddsZeroes b d x.layout p (n - 1) mid now → IsNewMbr b d p now
   new_mbr_of turning mid now turns free one two = record {
-    old = x.old;
+    old = x.layout;
     makes = makes_mbr;
     turning = turning;
     turns = turns;
     unowned = free.unowned;
-    unread = λ read. free.unread (read.0, read.1, read.2, (known.trace read.0).1 read.3);
+    unread = λ read. free.unread (read.0, read.1, read.2, (survey.trace read.0).1 read.3);
     first = one.0;
     last = two.0;
     is_first = one.1;
-    is_last = subst (λ (m : ℕ). Zeroes b d x.old p (m - 1) two.0) (sym count) two.1;
+    is_last = subst (λ (m : ℕ). Zeroes b d x.layout p (m - 1) two.0) (sym count) two.1;
     is = two.2 ∙ ap (λ (ps : List Writes). ps ++ two.0) one.2 ∙ append_assoc turning one.0 two.0;
   }
 
@@ -126,10 +127,10 @@ pub headers_read : (b n : ℕ) (o : Option Layout) (p : Layout) (s : ℕ) → Is
 headers_read b n o p s first at = inr (inr (first.records, first.chain, first.body, at))
 
 -- where the planner makes another plan, none is such an MBR
-pub none_first : (b n : ℕ) (d : Sectors) (x : Known) (p : Layout) → IsKnown b d x → length d ≡ n → ¬ IsFirstMbr n x.old p
+pub none_first : (b n : ℕ) (d : Sectors) (x : Survey) (p : Layout) → IsSurvey b d x → length d ≡ n → ¬ IsFirstMbr n x.layout p
     → (o : Option Layout) → ¬ MakesMbr b d o p
-none_first b n d x p known count none o makes =
-    let same : o ≡ x.old = denotes_one_lem b d o x.old makes.from known.old in
+none_first b n d x p survey count none o makes =
+    let same : o ≡ x.layout = denotes_one_lem b d o x.layout makes.from survey.layout in
     none (record {
       some = subst (λ (m : ℕ). 0 < m) count makes.some;
       records = makes.records;

@@ -27,8 +27,8 @@ use Rattle.pt_cases.specs.declared.targets.error.PlanError.TheVariants.{NotOneSw
 use Rattle.pt_cases.specs.declared.targets.error.PlanError.TheVariants.{Memory}
 use Rattle.pt_cases.specs.declared.targets.target.Target.{Target}
 use Rattle.pt_planner.specs.inner.Phases.{Closes, Arranged, writes_before, Touches, Alters, RefusedBy, Passes}
-use Rattle.pt_planner.specs.declared.phases.order.Order.{Order}
-use Rattle.pt_planner.specs.declared.phases.order.Order.TheVariants.{BackupFirst, PrimaryFirst, FromMbr}
+use Rattle.pt_planner.specs.declared.phases.copies.Order.{Order}
+use Rattle.pt_planner.specs.declared.phases.copies.Order.TheVariants.{BackupFirst, PrimaryFirst, FromMbr}
 use Rattle.pt_cases.proofs.AskedLemmas.{Asked, backup_first_puts, primary_first_puts, from_mbr_puts}
 use Rattle.pt_planner.proofs.Every.{new_put, other_alters}
 use Rattle.pt_planner.proofs.Labels.{labels_are, new_label, other_label, writes_both}

@@ -14,7 +14,7 @@ use Rattle.pt_cases.proofs.Ascending.{places_ascend_lem}
 use Rattle.pt_cases.specs.Unplanned.{LabelsFit}
 use Rattle.pt_planner.specs.Places.{PlacesAnswer}
 use Rattle.pt_planner.specs.inner.Places.{spot_of, IsAt, IsRead, OldAre, AnswerOf, AreSpots, Fit, slice_of, labels_of}
-use Rattle.pt_planner.specs.declared.places.answer.LabelTargets.{LabelTargets}
+use Rattle.pt_planner.specs.declared.places.LabelTargets.{LabelTargets}
 use Rattle.pt_planner.specs.declared.places.place.Place.{Place}
 use Rattle.pt_planner.specs.declared.places.place.Spot.{Spot}
 use Rattle.pt_planner.proofs.Lifts.{lifted}

@@ -16,7 +16,7 @@ use Rattle.pt_cases.specs.declared.targets.error.PlanError.TheVariants.{NotOneSw
 use Rattle.pt_cases.specs.declared.targets.error.PlanError.TheVariants.{Memory}
 use Rattle.pt_cases.specs.declared.targets.target.Target.{Target}
 use Rattle.pt_planner.specs.inner.Phases.{OneOwned, AreFree, NotFree, NoTurn, NoLoneTurn, RefusedBy}
-use Rattle.pt_planner.specs.declared.phases.order.Order.{Order}
+use Rattle.pt_planner.specs.declared.phases.copies.Order.{Order}
 
 -- what the look for an owned change found
 module _ {b : ℕ} (o : Option Layout) (ts sorted now : List (Target b)) (same : now ≡ sorted) (order : InSectorOrder ts sorted) where

@@ -18,8 +18,8 @@ use Rattle.pt_cases.specs.Unplanned.{HasNoTurn, StopsBy}
 use Rattle.pt_cases.specs.Targets.{SplitIs}
 use Rattle.pt_cases.specs.declared.targets.error.PlanError.{PlanError}
 use Rattle.pt_cases.specs.declared.targets.error.PlanError.TheVariants.{NotOneSwitch}
-use Rattle.pt_cases.specs.declared.targets.split.Split.{Split}
-use Rattle.pt_cases.specs.declared.targets.split.Split.TheVariants.{NotOne, One}
+use Rattle.pt_cases.specs.declared.targets.writes.Split.{Split}
+use Rattle.pt_cases.specs.declared.targets.writes.Split.TheVariants.{NotOne, One}
 use Rattle.pt_cases.specs.declared.targets.target.Target.{Target}
 use Rattle.pt_planner.specs.inner.Phases.{AreFree, IsTurn, NoTurn, IsLoneTurn}
 use Rattle.pt_planner.specs.Phases.{MbrStart, LabelStart}

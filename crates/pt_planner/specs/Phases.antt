@@ -17,8 +17,8 @@ use Rattle.pt_cases.specs.Cases.{ChangesLabels, HadMbr}
 use Rattle.pt_cases.specs.Unplanned.{Start}
 use Rattle.pt_cases.specs.Targets.{AreLabelTargets, AreMbrTargets}
 use Rattle.pt_cases.specs.declared.targets.target.Target.{Target}
-use Rattle.pt_planner.specs.declared.phases.order.Order.{Order}
-use Rattle.pt_planner.specs.declared.phases.order.Order.TheVariants.{BackupFirst, PrimaryFirst, FromMbr}
+use Rattle.pt_planner.specs.declared.phases.copies.Order.{Order}
+use Rattle.pt_planner.specs.declared.phases.copies.Order.TheVariants.{BackupFirst, PrimaryFirst, FromMbr}
 use Rattle.pt_mbr.specs.declared.ebr.Ebr.{Ebr}
 use Rattle.pt_mbr.specs.declared.record.Record.{Record}
 use Rattle.pt_layout.specs.declared.sound.finding.Finding.{Finding}

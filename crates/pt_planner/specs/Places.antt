@@ -6,8 +6,8 @@ use Rattle.pt_sector.specs.Sectors.{Sectors}
 use Rattle.pt_members.specs.declared.layout.Layout.{Layout}
 use Rattle.pt_cases.specs.Unplanned.{LabelsFit, IsFirstLeft, HasUnreadable, NoneLeft}
 use Rattle.pt_cases.specs.Targets.{AreLabelTargets}
-use Rattle.pt_planner.specs.declared.places.answer.LabelTargets.{LabelTargets}
-use Rattle.pt_planner.specs.declared.places.answer.LabelTargets.TheVariants.{Misplaced, Foreign, Unreadable, Targets}
+use Rattle.pt_planner.specs.declared.places.LabelTargets.{LabelTargets}
+use Rattle.pt_planner.specs.declared.places.LabelTargets.TheVariants.{Misplaced, Foreign, Unreadable, Targets}
 use Rattle.pt_cases.specs.declared.targets.target.Target.{Target}
 
 -- ## What the parts of a wanted MBR layout's targets are.

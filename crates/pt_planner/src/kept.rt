@@ -6,6 +6,7 @@ ghost use Rattle.pt_sector.specs.Overlays.{OnlyReads, read_of};
 ghost use Rattle.pt_sector.specs.Sectors.{IsSectorSize, Writes, sector};
 ghost use Rattle.pt_apply.specs.Plans.{writes_of, phases_of, InRange, PhaseInRange};
 ghost use Rattle.pt_apply.specs.inner.Plans.{phases_in};
+ghost use Rattle.pt_layout.specs.Surveys.{IsSurvey};
 ghost use Rattle.pt_gpt.specs.Copies.{HeaderBytes, HasRoom};
 ghost use Rattle.pt_gpt.specs.declared.header.Header.{Header as HeaderValue};
 ghost use Rattle.pt_members.specs.declared.layout.Layout.{Layout};
@@ -14,15 +15,15 @@ ghost use Rattle.pt_cases.specs.Kept.{AllStand, IsBridge, IsKept};
 ghost use Rattle.pt_cases.specs.Writes.{one_write};
 ghost use Rattle.pt_cases.specs.Unplanned.{fault_in, IsFailure};
 ghost use Rattle.pt_cases.specs.declared.primary.Primary.TheVariants.{Kept};
-ghost use Rattle.pt_planner.specs.PlanReads.{IsKnown, FailedInPlan, PlanReadsBy};
+ghost use Rattle.pt_planner.specs.PlanReads.{FailedInPlan, PlanReadsBy};
 ghost use Rattle.pt_planner.specs.inner.Kept.{IsWritten, IsTried, LeavesOut, RewritesPrimary, RewritesBackupFirst, RewritesPrimaryFirst};
 ghost use Rattle.pt_planner.specs.inner.Kept.{IsOver};
 
 use crate::copies::single;
-use crate::known::Known;
 use pt_apply::{Plan, Write};
 use pt_cases::targets::PlanError;
 use pt_gpt::{Side, decode_header, encode_header, has_room, header_at};
+use pt_layout::Survey;
 use pt_sector::{Disk, FailedRead, Lba, Sector, read_sector};
 use std::alloc::{AllocError, Global};
 
@@ -171,15 +172,18 @@ fn last_bytes<const B: usize>(writes: &[Write<B>]) -> Sector<B>
 
 /// What stands in sector 1 of a disk without a primary copy while that is written: what leads to the backup's array where the
 /// disk denotes a layout, and zeros where it denotes nothing.
-fn opening<const B: usize, D: Disk<B>>(disk: &mut D, known: &Known) -> Result<Sector<B>, FailedRead>
+fn opening<const B: usize, D: Disk<B>>(
+    disk: &mut D,
+    survey: &Survey,
+) -> Result<Sector<B>, FailedRead>
     requires size { IsSectorSize B }
     requires enough { 1 < D.count disk.old }
     ensures same { OnlyReads D.Disk disk.old disk.new }
     ensures blames { Blames read_of result (D.faults disk.old) (D.faults disk.new) }
     ensures place { IfErr result (λ e. e.0.0 + 1 ≡ D.count disk.old) }
-    ensures opening { D.tells → IfOk result (IsOver B (D.told disk.old).seen known.now.old) }
+    ensures opening { D.tells → IfOk result (IsOver B (D.told disk.old).seen survey.now.layout) }
 {
-    match known.old {
+    match survey.layout {
         None => Ok([0; B]),
         Some(_) => {
             let sectors = disk.sectors();
@@ -221,7 +225,7 @@ fn keep_backup_first<const B: usize, D: Disk<B>>(
 fn keep_primary_first<const B: usize, D: Disk<B>>(
     alloc: Global,
     disk: &mut D,
-    known: &Known,
+    survey: &Survey,
     phases: &mut Vec<Vec<Write<B>>>,
 ) -> Result<(), PlanError>
     requires size { IsSectorSize B }
@@ -237,9 +241,9 @@ fn keep_primary_first<const B: usize, D: Disk<B>>(
     ensures in_range { OnOk result (All (λ p. PhaseInRange (D.count disk.old) p.items) phases.new.items) }
     ensures some { OnOk result (All (λ p. 0 < length p.items) phases.new.items) }
     ensures kept { D.tells → OnOk result
-        (RewritesPrimaryFirst B (D.told disk.old).seen known.now.old (phases_in phases.old.items) (phases_in phases.new.items)) }
+        (RewritesPrimaryFirst B (D.told disk.old).seen survey.now.layout (phases_in phases.old.items) (phases_in phases.new.items)) }
 {
-    let meanwhile = opening(disk, known)?;
+    let meanwhile = opening(disk, survey)?;
     leave_out(disk, phases, 3)?;
     keep_open(alloc, disk, phases, 0, &meanwhile)?;
     Ok(())
@@ -250,11 +254,11 @@ fn keep_primary_first<const B: usize, D: Disk<B>>(
 pub fn keep_primary<const B: usize, D: Disk<B>>(
     alloc: Global,
     disk: &mut D,
-    known: &Known,
+    survey: &Survey,
     plan: Plan<B>,
 ) -> Result<Plan<B>, PlanError>
     requires size { IsSectorSize B }
-    requires known { D.tells → IsKnown B (D.told disk.old).seen known.now }
+    requires survey { D.tells → IsSurvey B (D.told disk.old).seen survey.now }
     requires in_range { InRange (D.count disk.old) plan }
     requires some { All (λ p. 0 < length p.items) plan.phases.items }
     ensures same { OnlyReads D.Disk disk.old disk.new }
@@ -272,10 +276,10 @@ pub fn keep_primary<const B: usize, D: Disk<B>>(
     if phases.len() < COPIES_PHASES || !has_room::<B>(disk.sectors()) {
         return Ok(Plan { phases });
     }
-    if known.primary {
+    if survey.primary {
         keep_backup_first(alloc, disk, &mut phases)?;
     } else {
-        keep_primary_first(alloc, disk, known, &mut phases)?;
+        keep_primary_first(alloc, disk, survey, &mut phases)?;
     }
     Ok(Plan { phases })
 }

@@ -4,7 +4,6 @@
 pub mod chains;
 pub mod copies;
 mod kept;
-mod known;
 mod new_mbr;
 pub mod phases;
 pub mod places;
@@ -12,7 +11,6 @@ mod planner;
 mod plans;
 mod state;
 
-pub use known::{Known, read_known};
 pub use planner::{make_plan, make_plan_by, plan_by, plan_from};
 pub use pt_cases::Primary;
 pub use pt_cases::targets::PlanError;

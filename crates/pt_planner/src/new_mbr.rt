@@ -9,6 +9,7 @@ ghost use Rattle.pt_sector.specs.Device.{Blames};
 ghost use Rattle.pt_sector.specs.Overlays.{OnlyReads, read_of};
 ghost use Rattle.pt_sector.specs.Sectors.{IsSectorSize};
 ghost use Rattle.pt_apply.specs.Plans.{phases_of, InRange};
+ghost use Rattle.pt_layout.specs.Surveys.{IsSurvey};
 ghost use Rattle.pt_cases.specs.Cases.{HadMbr};
 ghost use Rattle.pt_cases.specs.Keeps.{IsMbrBody};
 ghost use Rattle.pt_cases.specs.NewMbr.{empty_head, emptied, IsNewMbr, IsStale, IsTurning, UnplannedKept};
@@ -16,18 +17,17 @@ ghost use Rattle.pt_cases.specs.Unplanned.{fault_in, IsFailure, Unplanned};
 ghost use Rattle.pt_cases.specs.Writes.{one_write};
 ghost use Rattle.pt_cases.specs.declared.primary.Primary.TheVariants.{Kept};
 ghost use Rattle.pt_cases.specs.declared.targets.error.PlanError.TheVariants.{Memory};
-ghost use Rattle.pt_planner.specs.PlanReads.{FailedInPlan, IsKnown, PlanReads, PlanReadsBy};
+ghost use Rattle.pt_planner.specs.PlanReads.{FailedInPlan, PlanReads, PlanReadsBy};
 ghost use Rattle.pt_planner.specs.inner.NewMbr.{AddsZeroes, IsFirstMbr, IsFree, IsHeld, IsOr, WasGpt};
 
 use crate::copies::single;
 use crate::kept::put_phase;
-use crate::known::Known;
 use crate::phases::{Reserved, touches, touches_owned};
 use crate::planner::make_plan;
 use crate::plans::read_head;
 use pt_apply::Plan;
 use pt_cases::targets::{PlanError, owned_in};
-use pt_layout::{Body, Layout, Trace};
+use pt_layout::{Body, Layout, Survey, Trace};
 use pt_members::{is_owned, is_table};
 use pt_sector::{Disk, FailedRead, Lba, Overlay, Room, Sector, read_sector};
 use std::alloc::Global;
@@ -225,12 +225,12 @@ fn zero_header<const B: usize, D: Disk<B>>(
 pub(crate) fn new_mbr<const B: usize, D: Disk<B>>(
     alloc: Global,
     disk: &mut D,
-    known: &Known,
+    survey: &Survey,
     wanted: &Layout,
 ) -> Result<Plan<B>, PlanError>
     requires size { IsSectorSize B }
-    requires first { IsFirstMbr (D.count disk.old) known.now.old wanted.now }
-    requires known { D.tells → IsKnown B (D.told disk.old).seen known.now }
+    requires first { IsFirstMbr (D.count disk.old) survey.now.layout wanted.now }
+    requires survey { D.tells → IsSurvey B (D.told disk.old).seen survey.now }
     ensures same { OnlyReads D.Disk disk.old disk.new }
     ensures blames { Blames fault_in result (D.faults disk.old) (D.faults disk.new) }
     ensures place { D.tells → IfErr result (FailedInPlan (PlanReadsBy Kept B (D.count disk.old) wanted.now)) }
@@ -240,9 +240,9 @@ pub(crate) fn new_mbr<const B: usize, D: Disk<B>>(
     ensures err { D.tells → IfErr result (UnplannedKept B (D.told disk.old).seen wanted.now) }
 {
     let mut plan = turning(alloc, disk, wanted)?;
-    be_free(&known.old, &known.trace, &plan)?;
+    be_free(&survey.layout, &survey.trace, &plan)?;
     let last = Lba(disk.sectors() - 1);
-    zero_header(alloc, disk, &known.old, wanted, Lba(1), &mut plan)?;
-    zero_header(alloc, disk, &known.old, wanted, last, &mut plan)?;
+    zero_header(alloc, disk, &survey.layout, wanted, Lba(1), &mut plan)?;
+    zero_header(alloc, disk, &survey.layout, wanted, last, &mut plan)?;
     Ok(plan)
 }

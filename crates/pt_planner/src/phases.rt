@@ -2,18 +2,9 @@
 //!
 //! With both copies in the order that the disk asks for; with none where an MBR becomes another one, or labels alone change.
 mod copies;
-mod label;
-mod order;
-mod refusal;
 mod reserved;
-mod setting;
-mod turn_order;
-mod turn_phases;
-mod within;
+mod turns;
 
-pub use copies::both_copies;
-pub use label::one_label;
-pub use order::Order;
+pub use copies::{Order, Setting, both_copies};
 pub(crate) use reserved::{Reserved, touches, touches_owned};
-pub use setting::Setting;
-pub use within::within_mbr;
+pub use turns::{one_label, within_mbr};

@@ -6,23 +6,23 @@ ghost use Rattle.pt_sector.specs.Overlays.{OnlyReads};
 ghost use Rattle.pt_sector.specs.Sectors.{IsSectorSize};
 ghost use Rattle.pt_apply.specs.Plans.{phases_of, InRange};
 ghost use Rattle.pt_layout.specs.Sound.{Sound};
+ghost use Rattle.pt_layout.specs.Surveys.{IsSurvey};
 ghost use Rattle.pt_cases.specs.Cases.{IsPlan};
 ghost use Rattle.pt_cases.specs.Kept.{IsPlanBy};
 ghost use Rattle.pt_cases.specs.NewMbr.{UnplannedBy};
 ghost use Rattle.pt_cases.specs.Unplanned.{fault_in, Unplanned};
 ghost use Rattle.pt_cases.specs.declared.primary.Primary.TheVariants.{Kept};
-ghost use Rattle.pt_planner.specs.PlanReads.{IsKnown, FailedInPlan, PlanReads, PlanReadsBy, MakeReads, MakeReadsBy};
+ghost use Rattle.pt_planner.specs.PlanReads.{FailedInPlan, PlanReads, PlanReadsBy, MakeReads, MakeReadsBy};
 ghost use Rattle.pt_planner.specs.inner.PlanReads.{IsUnsoundBy};
 
 use crate::kept::keep_primary;
-use crate::known::{Known, read_known};
 use crate::new_mbr::{is_first_mbr, new_mbr};
 use crate::plans::{places_of, to_gpt, to_mbr};
 use crate::state::{Change, change_to, is_done};
 use pt_apply::Plan;
 use pt_cases::Primary;
 use pt_cases::targets::PlanError;
-use pt_layout::{Layout, unsound};
+use pt_layout::{Layout, Survey, survey_disk, unsound};
 use pt_sector::{Disk, ReadCache, Room};
 use std::alloc::Global;
 
@@ -39,17 +39,17 @@ fn be_sound<const B: usize>(alloc: Global, wanted: &Layout) -> Result<(), PlanEr
     }
 }
 
-/// The plan for a layout, by what is known of the disk.
+/// The plan for a layout, by a survey of the disk.
 ///
 /// See [`make_plan`].
 pub fn plan_from<const B: usize, D: Disk<B>>(
     alloc: Global,
     disk: &mut D,
-    known: &Known,
+    survey: &Survey,
     wanted: &Layout,
 ) -> Result<Plan<B>, PlanError>
     requires size { IsSectorSize B }
-    requires known { D.tells → IsKnown B (D.told disk.old).seen known.now }
+    requires survey { D.tells → IsSurvey B (D.told disk.old).seen survey.now }
     ensures same { OnlyReads D.Disk disk.old disk.new }
     ensures blames { Blames fault_in result (D.faults disk.old) (D.faults disk.new) }
     ensures place { IfErr result (FailedInPlan (PlanReads B (D.count disk.old) wanted.now)) }
@@ -59,19 +59,19 @@ pub fn plan_from<const B: usize, D: Disk<B>>(
     ensures err { D.tells → IfErr result (Unplanned B (D.told disk.old).seen wanted.now) }
 {
     be_sound::<B>(alloc, wanted)?;
-    if is_done::<B>(known, wanted) {
+    if is_done::<B>(survey, wanted) {
         return Ok(Plan {
             phases: Vec::new(alloc),
         });
     }
-    let change = match change_to::<B>(disk.sectors(), &known.old, wanted) {
+    let change = match change_to::<B>(disk.sectors(), &survey.layout, wanted) {
         Some(change) => change,
         None => return Err(PlanError::NotOneSwitch),
     };
-    let places = places_of(alloc, disk, &known.old, wanted)?;
+    let places = places_of(alloc, disk, &survey.layout, wanted)?;
     match change {
-        Change::Mbr(change) => to_mbr(alloc, disk, known, wanted, &change, places),
-        Change::Gpt(table) => to_gpt(alloc, disk, known, wanted, table, places),
+        Change::Mbr(change) => to_mbr(alloc, disk, survey, wanted, &change, places),
+        Change::Gpt(table) => to_gpt(alloc, disk, survey, wanted, table, places),
     }
 }
 
@@ -79,11 +79,11 @@ pub fn plan_from<const B: usize, D: Disk<B>>(
 fn plan_kept<const B: usize, D: Disk<B>>(
     alloc: Global,
     disk: &mut D,
-    known: &Known,
+    survey: &Survey,
     wanted: &Layout,
 ) -> Result<Plan<B>, PlanError>
     requires size { IsSectorSize B }
-    requires known { D.tells → IsKnown B (D.told disk.old).seen known.now }
+    requires survey { D.tells → IsSurvey B (D.told disk.old).seen survey.now }
     ensures same { OnlyReads D.Disk disk.old disk.new }
     ensures blames { Blames fault_in result (D.faults disk.old) (D.faults disk.new) }
     ensures place { D.tells → IfErr result (FailedInPlan (PlanReadsBy Kept B (D.count disk.old) wanted.now)) }
@@ -92,25 +92,25 @@ fn plan_kept<const B: usize, D: Disk<B>>(
     ensures plan { D.tells → IfOk result (λ plan. IsPlanBy Kept B (D.told disk.old).seen wanted.now (phases_of plan)) }
     ensures err { D.tells → IfErr result (UnplannedBy Kept B (D.told disk.old).seen wanted.now) }
 {
-    if is_first_mbr(disk.sectors(), &known.old, wanted) {
-        return new_mbr(alloc, disk, known, wanted);
+    if is_first_mbr(disk.sectors(), &survey.layout, wanted) {
+        return new_mbr(alloc, disk, survey, wanted);
     }
-    let plan = plan_from(alloc, disk, known, wanted)?;
-    keep_primary(alloc, disk, known, plan)
+    let plan = plan_from(alloc, disk, survey, wanted)?;
+    keep_primary(alloc, disk, survey, plan)
 }
 
-/// The plan for a layout, by what is known of the disk and by what becomes of its primary copy.
+/// The plan for a layout, by a survey of the disk and by what becomes of its primary copy.
 ///
 /// See [`make_plan_by`].
 pub fn plan_by<const B: usize, D: Disk<B>>(
     alloc: Global,
     disk: &mut D,
-    known: &Known,
+    survey: &Survey,
     wanted: &Layout,
     primary: Primary,
 ) -> Result<Plan<B>, PlanError>
     requires size { IsSectorSize B }
-    requires known { D.tells → IsKnown B (D.told disk.old).seen known.now }
+    requires survey { D.tells → IsSurvey B (D.told disk.old).seen survey.now }
     ensures same { OnlyReads D.Disk disk.old disk.new }
     ensures blames { Blames fault_in result (D.faults disk.old) (D.faults disk.new) }
     ensures place { D.tells → IfErr result (FailedInPlan (PlanReadsBy primary B (D.count disk.old) wanted.now)) }
@@ -120,8 +120,8 @@ pub fn plan_by<const B: usize, D: Disk<B>>(
     ensures err { D.tells → IfErr result (UnplannedBy primary B (D.told disk.old).seen wanted.now) }
 {
     match primary {
-        Primary::Zeroed => plan_from(alloc, disk, known, wanted),
-        Primary::Kept => plan_kept(alloc, disk, known, wanted),
+        Primary::Zeroed => plan_from(alloc, disk, survey, wanted),
+        Primary::Kept => plan_kept(alloc, disk, survey, wanted),
     }
 }
 
@@ -150,8 +150,8 @@ pub fn make_plan<const B: usize, D: Disk<B>>(
 {
     let room = Room::for_cache(alloc)?;
     let mut cache = ReadCache::new(disk, room);
-    let (known, _reason) = read_known(alloc, &mut cache)?;
-    plan_from(alloc, &mut cache, &known, wanted)
+    let survey = survey_disk(alloc, &mut cache)?;
+    plan_from(alloc, &mut cache, &survey, wanted)
 }
 
 /// The same, by what becomes of the primary copy.
@@ -182,6 +182,6 @@ pub fn make_plan_by<const B: usize, D: Disk<B>>(
 {
     let room = Room::for_cache(alloc)?;
     let mut cache = ReadCache::new(disk, room);
-    let (known, _reason) = read_known(alloc, &mut cache)?;
-    plan_by(alloc, &mut cache, &known, wanted, primary)
+    let survey = survey_disk(alloc, &mut cache)?;
+    plan_by(alloc, &mut cache, &survey, wanted, primary)
 }

@@ -5,25 +5,25 @@ ghost use Rattle.pt_sector.specs.Device.{Blames};
 ghost use Rattle.pt_sector.specs.Overlays.{OnlyReads, read_of};
 ghost use Rattle.pt_sector.specs.Sectors.{IsSectorSize, sector};
 ghost use Rattle.pt_apply.specs.Plans.{phases_of, InRange};
+ghost use Rattle.pt_layout.specs.Surveys.{IsSurvey};
 ghost use Rattle.pt_members.specs.declared.layout.Body.TheVariants.{Mbr, Gpt};
 ghost use Rattle.pt_cases.specs.Cases.{IsPlan};
 ghost use Rattle.pt_cases.specs.Writes.{FitsTable};
 ghost use Rattle.pt_recover.specs.Denotes.{Denotes};
 ghost use Rattle.pt_cases.specs.Unplanned.{fault_in, Start, NoneLeft};
 ghost use Rattle.pt_cases.specs.Targets.{AreLabelTargets};
-ghost use Rattle.pt_planner.specs.PlanReads.{IsKnown, FailedInPlan, PlanReads};
+ghost use Rattle.pt_planner.specs.PlanReads.{FailedInPlan, PlanReads};
 ghost use Rattle.pt_planner.specs.inner.PlanReads.{PlacesStop, IsMbrChange, OrderOf};
 ghost use Rattle.pt_cases.specs.inner.Unplanned.{Hindered};
 
 use crate::chains::mbr_targets;
-use crate::known::Known;
 use crate::phases::{Order, Setting, both_copies, one_label, within_mbr};
 use crate::places::{LabelTargets, label_targets};
 use crate::state::{MbrChange, changes_labels, is_broken, plain_order};
 use pt_apply::Plan;
 use pt_cases::targets::{PlanError, Target};
 use pt_gpt::Table;
-use pt_layout::{Finding, Head, Layout, Path};
+use pt_layout::{Finding, Head, Layout, Path, Survey};
 use pt_sector::{Disk, FailedRead, Lba, Sector, read_sector};
 use std::alloc::Global;
 
@@ -62,25 +62,25 @@ pub(crate) fn places_of<const B: usize, D: Disk<B>>(
 pub(crate) fn to_mbr<const B: usize, D: Disk<B>>(
     alloc: Global,
     disk: &mut D,
-    known: &Known,
+    survey: &Survey,
     wanted: &Layout,
     change: &MbrChange,
     places: Vec<Target<B>>,
 ) -> Result<Plan<B>, PlanError>
     requires size { IsSectorSize B }
     requires body { wanted.now.body ≡ Mbr change.now.records.now change.now.chain.now }
-    requires change { IsMbrChange (D.count disk.old) known.now.old change.now }
+    requires change { IsMbrChange (D.count disk.old) survey.now.layout change.now }
     requires in_range { All (λ t. t.at.0 < D.count disk.old) places.items }
-    requires known { D.tells → IsKnown B (D.told disk.old).seen known.now }
-    requires start { D.tells → Start B (D.told disk.old).seen known.now.old wanted.now }
-    requires places { D.tells → AreLabelTargets (D.told disk.old).seen known.now.old wanted.now places.items }
+    requires survey { D.tells → IsSurvey B (D.told disk.old).seen survey.now }
+    requires start { D.tells → Start B (D.told disk.old).seen survey.now.layout wanted.now }
+    requires places { D.tells → AreLabelTargets (D.told disk.old).seen survey.now.layout wanted.now places.items }
     ensures same { OnlyReads D.Disk disk.old disk.new }
     ensures blames { Blames fault_in result (D.faults disk.old) (D.faults disk.new) }
     ensures place { IfErr result (FailedInPlan (PlanReads B (D.count disk.old) wanted.now)) }
     ensures in_range { IfOk result (InRange (D.count disk.old)) }
     ensures some { IfOk result (λ plan. All (λ p. 0 < length p.items) plan.phases.items) }
     ensures plan { D.tells → IfOk result (λ plan. IsPlan B (D.told disk.old).seen wanted.now (phases_of plan)) }
-    ensures err { D.tells → IfErr result (Hindered B (D.told disk.old).seen known.now.old wanted.now) }
+    ensures err { D.tells → IfErr result (Hindered B (D.told disk.old).seen survey.now.layout wanted.now) }
 {
     let targets = mbr_targets(
         alloc,
@@ -91,7 +91,7 @@ pub(crate) fn to_mbr<const B: usize, D: Disk<B>>(
         change.chain,
     )?;
     match targets {
-        Some(heads) => within_mbr(alloc, &known.old, &known.guarded, heads, places),
+        Some(heads) => within_mbr(alloc, &survey.layout, &survey.guarded, heads, places),
         None => Err(PlanError::NotOneSwitch),
     }
 }
@@ -132,7 +132,7 @@ fn order_of<const B: usize, D: Disk<B>>(
 pub(crate) fn to_gpt<const B: usize, D: Disk<B>>(
     alloc: Global,
     disk: &mut D,
-    known: &Known,
+    survey: &Survey,
     wanted: &Layout,
     table: &Table,
     places: Vec<Target<B>>,
@@ -141,25 +141,25 @@ pub(crate) fn to_gpt<const B: usize, D: Disk<B>>(
     requires body { wanted.now.body ≡ Gpt table.now }
     requires fits { FitsTable B (D.count disk.old) table.now }
     requires in_range { All (λ t. t.at.0 < D.count disk.old) places.items }
-    requires known { D.tells → IsKnown B (D.told disk.old).seen known.now }
-    requires start { D.tells → Start B (D.told disk.old).seen known.now.old wanted.now }
-    requires places { D.tells → AreLabelTargets (D.told disk.old).seen known.now.old wanted.now places.items }
+    requires survey { D.tells → IsSurvey B (D.told disk.old).seen survey.now }
+    requires start { D.tells → Start B (D.told disk.old).seen survey.now.layout wanted.now }
+    requires places { D.tells → AreLabelTargets (D.told disk.old).seen survey.now.layout wanted.now places.items }
     ensures same { OnlyReads D.Disk disk.old disk.new }
     ensures blames { Blames fault_in result (D.faults disk.old) (D.faults disk.new) }
     ensures place { IfErr result (FailedInPlan (PlanReads B (D.count disk.old) wanted.now)) }
     ensures in_range { IfOk result (InRange (D.count disk.old)) }
     ensures some { IfOk result (λ plan. All (λ p. 0 < length p.items) plan.phases.items) }
     ensures plan { D.tells → IfOk result (λ plan. IsPlan B (D.told disk.old).seen wanted.now (phases_of plan)) }
-    ensures err { D.tells → IfErr result (Hindered B (D.told disk.old).seen known.now.old wanted.now) }
+    ensures err { D.tells → IfErr result (Hindered B (D.told disk.old).seen survey.now.layout wanted.now) }
 {
-    if changes_labels(&known.old, wanted) {
-        return one_label(alloc, &known.old, is_broken(&known.finding), places);
+    if changes_labels(&survey.layout, wanted) {
+        return one_label(alloc, &survey.layout, is_broken(&survey.finding), places);
     }
-    let order = order_of(disk, known.head, known.primary)?;
+    let order = order_of(disk, survey.head, survey.primary)?;
     let setting = Setting {
         sectors: disk.sectors(),
-        old: &known.old,
-        guarded: &known.guarded,
+        old: &survey.layout,
+        guarded: &survey.guarded,
     };
     both_copies(alloc, &order, &setting, table, places)
 }

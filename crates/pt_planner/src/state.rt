@@ -3,17 +3,16 @@
 ghost use Rattle.std.specs.Prelude.{◌≡◌, ◌⊎◌, ◌↔◌, IsTrue, Option, Some, length, IfSome, IfNone};
 ghost use Rattle.pt_sector.specs.Sectors.{Sectors, IsSectorSize};
 ghost use Rattle.pt_layout.specs.Healthy.{IsHealthy};
+ghost use Rattle.pt_layout.specs.Surveys.{IsSurvey};
 ghost use Rattle.pt_recover.specs.Denotes.{Denotes};
 ghost use Rattle.pt_cases.specs.Cases.{ChangesLabels, MayBePlanned};
-ghost use Rattle.pt_planner.specs.PlanReads.{IsKnown};
 ghost use Rattle.pt_planner.specs.inner.PlanReads.{IsBrokenBy, PlainOrder, IsMbrChange, NoMbrChange, IsChangeTo};
 
 use crate::chains::is_linked;
 use crate::copies::fits_table;
-use crate::known::Known;
 use crate::phases::Order;
 use pt_gpt::Table;
-use pt_layout::{Body, Ebrs, Finding, Layout};
+use pt_layout::{Body, Ebrs, Finding, Layout, Survey};
 use pt_mbr::Record;
 use pt_sector::Sector;
 
@@ -28,12 +27,12 @@ fn is_same(old: &Option<Layout>, wanted: &Layout) -> bool
 }
 
 /// Whether the disk is healthy with the layout.
-pub(crate) fn is_done<const B: usize>(known: &Known, wanted: &Layout) -> bool
+pub(crate) fn is_done<const B: usize>(survey: &Survey, wanted: &Layout) -> bool
     requires { IsSectorSize B }
-    ensures done { (d : Sectors) → IsKnown B d known.now → IsTrue result ↔ IsHealthy B d wanted.now }
-    ensures stays { (known.now.old ≡ Some wanted.now) ⊎ ¬ (known.now.old ≡ Some wanted.now) }
+    ensures done { (d : Sectors) → IsSurvey B d survey.now → IsTrue result ↔ IsHealthy B d wanted.now }
+    ensures stays { (survey.now.layout ≡ Some wanted.now) ⊎ ¬ (survey.now.layout ≡ Some wanted.now) }
 {
-    is_same(&known.old, wanted) && known.finding.is_none()
+    is_same(&survey.layout, wanted) && survey.finding.is_none()
 }
 
 /// An MBR in place of another one: the records and the chain of both.

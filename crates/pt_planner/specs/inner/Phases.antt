@@ -19,8 +19,8 @@ use Rattle.pt_recover.specs.Spans.{IsIn}
 use Rattle.pt_apply.specs.Plans.{writes_in}
 use Rattle.pt_planner.specs.Phases.{WroteCopies}
 use Rattle.pt_cases.specs.declared.targets.target.TargetKind.TheVariants.{Changes}
-use Rattle.pt_planner.specs.declared.phases.order.Order.{Order}
-use Rattle.pt_planner.specs.declared.phases.order.Order.TheVariants.{BackupFirst, PrimaryFirst, FromMbr}
+use Rattle.pt_planner.specs.declared.phases.copies.Order.{Order}
+use Rattle.pt_planner.specs.declared.phases.copies.Order.TheVariants.{BackupFirst, PrimaryFirst, FromMbr}
 use Rattle.pt_planner.specs.declared.phases.reserved.Reserved.{Reserved}
 use Rattle.pt_planner.specs.declared.phases.reserved.Reserved.TheVariants.{Owned, Guarded}
 

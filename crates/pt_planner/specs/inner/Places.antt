@@ -17,8 +17,8 @@ use Rattle.pt_members.specs.declared.layout.Layout.{Layout}
 use Rattle.pt_members.specs.declared.layout.Slice.{Slice}
 use Rattle.pt_cases.specs.declared.targets.target.TargetKind.{TargetKind}
 use Rattle.pt_cases.specs.declared.targets.target.TargetKind.TheVariants.{Stays, New, Changes}
-use Rattle.pt_planner.specs.declared.places.answer.LabelTargets.{LabelTargets}
-use Rattle.pt_planner.specs.declared.places.answer.LabelTargets.TheVariants.{Misplaced, Foreign, Unreadable, Targets}
+use Rattle.pt_planner.specs.declared.places.LabelTargets.{LabelTargets}
+use Rattle.pt_planner.specs.declared.places.LabelTargets.TheVariants.{Misplaced, Foreign, Unreadable, Targets}
 use Rattle.pt_planner.specs.declared.places.place.Place.{Place}
 use Rattle.pt_planner.specs.declared.places.place.Spot.{Spot}
 use Rattle.pt_recover.specs.inner.Denotes.{labelled}

@@ -1,5 +1,5 @@
--- What the planner knows of a disk, and what it reads: what private contracts cite.
-use Rattle.std.specs.Prelude.{◌≡◌, ◌<◌, Option, Some, None, Result, Ok, Err, ◌⊎◌, ℕ, List, length, Bool, true, false}
+-- What the planner finds before it makes a plan: what private contracts cite.
+use Rattle.std.specs.Prelude.{◌≡◌, ◌<◌, Option, Some, None, ◌⊎◌, ℕ, List, length, Bool, true, false}
 use Rattle.pt_mbr.specs.Records.{extended_of}
 use Rattle.pt_mbr.specs.declared.ebr.Ebr.{Ebr}
 use Rattle.pt_mbr.specs.declared.record.Record.{Record}
@@ -10,10 +10,7 @@ use Rattle.pt_cases.specs.Writes.{FitsTable, IsLoneChain}
 use Rattle.pt_planner.specs.declared.state.MbrChange.{MbrChange}
 use Rattle.pt_planner.specs.declared.state.Change.{Change}
 use Rattle.pt_planner.specs.declared.state.Change.TheVariants as change
-use Rattle.pt_recover.specs.declared.error.NoTable.{NoTable}
 use Rattle.pt_members.specs.declared.layout.Layout.{Layout}
-use Rattle.pt_layout.specs.declared.survey.Survey.{Survey}
-use Rattle.pt_planner.specs.declared.known.Known.{Known}
 use Rattle.pt_sector.specs.Sectors.{Sectors, sector}
 use Rattle.pt_members.specs.Members.{number_path}
 use Rattle.pt_layout.specs.Sound.{IsUnsound}
@@ -22,30 +19,12 @@ use Rattle.pt_layout.specs.declared.sound.finding.Finding.TheVariants.{PrimaryCo
 use Rattle.pt_layout.specs.declared.sound.finding.Finding.TheVariants.{ForeignLabel}
 use Rattle.pt_layout.specs.declared.health.Head.{Head}
 use Rattle.pt_layout.specs.declared.health.Head.TheVariants as head
-use Rattle.pt_planner.specs.declared.phases.order.Order.{Order}
-use Rattle.pt_planner.specs.declared.phases.order.Order.TheVariants.{BackupFirst, PrimaryFirst, FromMbr}
+use Rattle.pt_planner.specs.declared.phases.copies.Order.{Order}
+use Rattle.pt_planner.specs.declared.phases.copies.Order.TheVariants.{BackupFirst, PrimaryFirst, FromMbr}
 use Rattle.pt_cases.specs.Unplanned.{LabelsFit, IsFirstLeft, HasUnreadable, NoneLeft}
 use Rattle.pt_cases.specs.declared.targets.error.PlanError.{PlanError}
 use Rattle.pt_cases.specs.declared.targets.error.PlanError.TheVariants.{NotOneSwitch, ReusedInOneBatch, NeedsRepair, Unsound, Device}
 use Rattle.pt_cases.specs.declared.targets.error.PlanError.TheVariants.{Memory}
-
--- ## What the planner knows of a disk.
-
--- the layout found, or the reason why none was
-abbrev pub FoundAs : Result Layout NoTable → Option Layout → Option NoTable → Type 0
-FoundAs (Ok o) old reason = (old ≡ Some o) × (reason ≡ None)
-FoundAs (Err e) old reason = (old ≡ None) × (reason ≡ Some e)
-
--- what a survey says, in the planner's words
-pub record IsKnownOf (read : Survey) (x : Known) (reason : Option NoTable) : Type 0 where
-  pub head : x.head ≡ read.head
-  pub found : FoundAs read.found x.old reason
-  pub finding : x.finding ≡ read.finding
-  pub primary : x.primary ≡ read.primary
-  pub guarded : x.guarded ≡ read.guarded
-  pub trace : x.trace ≡ read.trace
-
--- ## What the planner finds before it makes a plan.
 
 -- the findings that tell of a copy, or of what protects it
 abbrev pub IsBrokenBy : Option Finding → Bool → Type 0

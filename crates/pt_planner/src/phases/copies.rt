@@ -1,25 +1,89 @@
-//! The plan of both copies.
+//! The plan of both copies, and what there is against it.
 
-ghost use Rattle.std.specs.Prelude.{◌≡◌, ◌<◌, ◌≤◌, length, All, IfOk, IfErr, None};
+ghost use Rattle.std.specs.Prelude.{◌≡◌, ◌<◌, ◌≤◌, IfErr, OnOk, length, All, IfOk, None};
 ghost use Rattle.pt_sector.specs.Sectors.{Sectors, IsSectorSize};
-ghost use Rattle.pt_apply.specs.Plans.{writes_of, phases_of, InRange, PhaseInRange, writes_in};
 ghost use Rattle.pt_gpt.specs.Copies.{HasRoom};
 ghost use Rattle.pt_members.specs.declared.layout.Layout.{Layout};
+ghost use Rattle.pt_apply.specs.Plans.{phases_of, writes_of, InRange, PhaseInRange, writes_in};
 ghost use Rattle.pt_cases.specs.Cases.{IsPlan};
 ghost use Rattle.pt_cases.specs.Keeps.{copies_bound};
 ghost use Rattle.pt_cases.specs.Unplanned.{HasNoCopies, fault_in, StopsBy};
-ghost use Rattle.pt_planner.specs.inner.Phases.{Arranged, Closes};
+ghost use Rattle.pt_planner.specs.inner.Phases.{Passes, RefusedBy, phases_before, Arranged, Closes};
 ghost use Rattle.pt_planner.specs.Phases.{CopiesStart, last_of};
 
 use crate::copies::{backup_first, from_mbr, primary_first, protected_head, protecting};
-use crate::phases::order::Order;
-use crate::phases::refusal::accept;
-use crate::phases::setting::Setting;
+use crate::phases::reserved::{Reserved, touches, touches_owned};
 use pt_apply::{Plan, Write};
-use pt_cases::targets::{PlanError, Target, in_order, new_writes};
+use pt_cases::targets::{
+    PlanError, Target, TargetKind, first_change, first_owned_of_kind, in_order, new_writes,
+};
 use pt_gpt::Table;
+use pt_recover::{Layout, Trace};
 use pt_sector::Sector;
 use std::alloc::{AllocError, Global};
+
+/// In which order both copies of a table are written, with the sector 0 that they meet.
+#[derive(Clone, Copy)]
+pub enum Order<const B: usize> {
+    /// The backup copy, then the primary one: the disk has a primary copy. Sector 0 is none where it is known to be
+    /// protective.
+    BackupFirst(Option<Sector<B>>),
+    /// The primary copy, then the backup one: the disk has no primary copy. Sector 0 is none where it is known to be
+    /// protective.
+    PrimaryFirst(Option<Sector<B>>),
+    /// Both before sector 0: the disk is an MBR disk.
+    FromMbr(Sector<B>),
+}
+
+/// What the writes of both copies meet on a disk.
+#[derive(Clone, Copy)]
+pub struct Setting<'a> {
+    /// How many sectors the disk has.
+    pub sectors: u64,
+    /// What it denotes.
+    pub old: &'a Option<Layout>,
+    /// The sectors that may be written in the switch alone.
+    pub guarded: &'a Trace,
+}
+
+/// How many phases come before the one with which the disk turns.
+fn phases_before_switch<const B: usize>(order: &Order<B>) -> usize
+    ensures { result ≡ phases_before order.now }
+{
+    match order {
+        Order::BackupFirst(_) => 1,
+        Order::PrimaryFirst(_) => 2,
+        Order::FromMbr(_) => 1,
+    }
+}
+
+/// Whether there is nothing against the plan: no write of it and no label that changes is of an owned sector, no label
+/// changes beside the switch, and no guarded sector is written before it.
+fn accept<const B: usize>(
+    order: &Order<B>,
+    old: &Option<Layout>,
+    guarded: &Trace,
+    targets: &[Target<B>],
+    plan: &Plan<B>,
+) -> Result<(), PlanError>
+    ensures ok { OnOk result (Passes old.now guarded.now order.now targets.now (phases_of plan.now)) }
+    ensures err { IfErr result (RefusedBy old.now guarded.now order.now targets.now (phases_of plan.now)) }
+{
+    if touches_owned(old, &plan.phases) {
+        return Err(PlanError::ReusedInOneBatch);
+    }
+    if let Some(_) = first_owned_of_kind(old, targets, TargetKind::Changes) {
+        return Err(PlanError::ReusedInOneBatch);
+    }
+    if let Some(_) = first_change(targets) {
+        return Err(PlanError::NotOneSwitch);
+    }
+    let count = phases_before_switch(order).min(plan.phases.len());
+    if touches(&Reserved::Guarded(guarded), &plan.phases[..count]) {
+        return Err(PlanError::NotOneSwitch);
+    }
+    Ok(())
+}
 
 /// The sector 0 to be written last, none where it is protective.
 fn last_sector<const B: usize>(sectors: u64, head: &Option<Sector<B>>) -> Option<Sector<B>>

@@ -10,7 +10,7 @@ use Rattle.pt_planner.proofs.Ranges.{length_phases}
 use Rattle.pt_planner.proofs.Touching.{unless, when}
 use Rattle.pt_planner.proofs.kept.keep_primary.Goals.{then-len-lt-COPIES_PHASES-via-then-len-lt-COPIES_PHASES}
 use Rattle.pt_planner.proofs.kept.keep_primary.Goals.{then-len-lt-COPIES_PHASES-via-else-len-lt-COPIES_PHASES+then-not-has_room}
-use Rattle.pt_planner.proofs.kept.keep_primary.Goals.{then-known+in_ok-keep_backup_first, else-known+in_ok-keep_primary_first}
+use Rattle.pt_planner.proofs.kept.keep_primary.Goals.{then-survey+in_ok-keep_backup_first, else-survey+in_ok-keep_primary_first}
 use Rattle.pt_planner.proofs.kept.keep_primary.Goals as goal
 
 pub returns-then-len-lt-COPIES_PHASES-clause-kept : goal.returns-then-len-lt-COPIES_PHASES-clause-kept
@@ -59,25 +59,25 @@ returns-in_err-keep_primary_first-clause-place g c = λ tells.
 pub returns-clause-kept : goal.returns-clause-kept
 returns-clause-kept g c = λ tells p plan.
     let d = (g.D.Disk.told c.args.disk.now).seen in
-    let known = c.requires.known tells in
-    elim c.if-known.branch [
-      | then-known+in_ok-keep_backup_first w ↦
+    let survey = c.requires.survey tells in
+    elim c.if-survey.branch [
+      | then-survey+in_ok-keep_backup_first w ↦
           subst (λ v. IsKept g.row.B d p (phases_in v.items)) (sym w.phases-is)
           (backup_first_kept g.row.B d p (phases_of c.args.plan) (phases_in w.keep_backup_first.new.phases.items)
           (let len = c.len.ensures in let count = length_phases c.args.plan.phases.items in let many = c.if-len-lt-COPIES_PHASES.false in
           omega (arith, len, count, many))
-          (λ plain. (rw w.if-known.true at (known.primary plain
+          (λ plain. (rw w.if-survey.true at (survey.primary plain
           (rw (g.met.D.Disk.sized c.args.disk.now tells)
           (rw c.sectors.ensures at (when _ (rw c.if-not-has_room.false at c.has_room.ensures)))))).0 refl)
           (w.in_ok-keep_backup_first.ensures.kept tells) plan)
-      | else-known+in_ok-keep_primary_first w ↦
+      | else-survey+in_ok-keep_primary_first w ↦
           subst (λ v. IsKept g.row.B d p (phases_in v.items)) (sym w.phases-is)
           (primary_first_kept g.row.B d p (phases_of c.args.plan) (phases_in w.keep_primary_first.new.phases.items)
           (let len = c.len.ensures in let count = length_phases c.args.plan.phases.items in let many = c.if-len-lt-COPIES_PHASES.false in
           omega (arith, len, count, many))
-          (λ plain. unless _ (rw w.if-known.false at (known.primary plain
+          (λ plain. unless _ (rw w.if-survey.false at (survey.primary plain
           (rw (g.met.D.Disk.sized c.args.disk.now tells)
           (rw c.sectors.ensures at (when _ (rw c.if-not-has_room.false at c.has_room.ensures)))))))
-          c.args.known.now.old known.old
+          c.args.survey.now.layout survey.layout
           (w.in_ok-keep_primary_first.ensures.kept tells) plan)
     ]

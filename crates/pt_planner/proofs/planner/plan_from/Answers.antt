@@ -41,7 +41,7 @@ returns-then-is_done g c =
       in_range = λ k z lt. absurd (omega (arith, none, lt));
       some = λ k z lt. absurd (omega (arith, none, lt));
       plan = λ tells.
-          idle ((c.is_done.ensures.done (g.D.Disk.told c.args.disk.now).seen (c.requires.known tells)).0 c.if-is_done.true)
+          idle ((c.is_done.ensures.done (g.D.Disk.told c.args.disk.now).seen (c.requires.survey tells)).0 c.if-is_done.true)
           (ap phases_in c.new.ensures.items);
       err = λ tells. tt;
     }
@@ -56,10 +56,10 @@ returns-in-None g c = record {
   plan = λ tells. tt;
   err = λ tells.
       let d = (g.D.Disk.told c.args.disk.now).seen in
-      let known = c.requires.known tells in
-      none_of_disk g.row.B d c.args.known.now.old c.args.wanted.now known.old c.in_ok-be_sound.ensures.ok
-      (isnt c.is_done.result c.if-is_done.false (c.is_done.ensures.done d known))
-      (c.in-None.ensures.none d (g.met.D.Disk.sized c.args.disk.now tells ∙ sym c.sectors.ensures) known.old);
+      let survey = c.requires.survey tells in
+      none_of_disk g.row.B d c.args.survey.now.layout c.args.wanted.now survey.layout c.in_ok-be_sound.ensures.ok
+      (isnt c.is_done.result c.if-is_done.false (c.is_done.ensures.done d survey))
+      (c.in-None.ensures.none d (g.met.D.Disk.sized c.args.disk.now tells ∙ sym c.sectors.ensures) survey.layout);
 }
 
 pub returns-in_err-places : goal.returns-in_err-places
@@ -74,22 +74,22 @@ returns-in_err-places g c =
       plan = λ tells. rw p.1 tt;
       err = λ tells.
           let d = (g.D.Disk.told c.args.disk.now).seen in
-          let known = c.requires.known tells in
-          rw (p.1, p.2) (no_places g.row.B d c.args.known.now.old c.args.wanted.now known.old c.in_ok-be_sound.ensures.ok
-          (isnt c.is_done.result c.if-is_done.false (c.is_done.ensures.done d known)) c.in_err-places.field-0.0
+          let survey = c.requires.survey tells in
+          rw (p.1, p.2) (no_places g.row.B d c.args.survey.now.layout c.args.wanted.now survey.layout c.in_ok-be_sound.ensures.ok
+          (isnt c.is_done.result c.if-is_done.false (c.is_done.ensures.done d survey)) c.in_err-places.field-0.0
           (c.in_err-places.ensures.err tells));
     }
 
 pub places_of-requires : goal.places_of-requires
 places_of-requires g c = (
   omega arith,
-  (c.requires.size, (c.in-Some.ensures.sectors ∙ c.sectors.ensures, λ tells. (c.requires.known tells).old)),
+  (c.requires.size, (c.in-Some.ensures.sectors ∙ c.sectors.ensures, λ tells. (c.requires.survey tells).layout)),
 )
 
 pub to_mbr-requires : goal.to_mbr-requires
 to_mbr-requires g c =
-    let is : IsChangeTo g.row.B c.sectors.result c.args.known.now.old c.args.wanted.now (Mbr c.in-Mbr.change) =
-    subst (IsChangeTo g.row.B c.sectors.result c.args.known.now.old c.args.wanted.now) c.in-Mbr.is c.in-Some.ensures.some in
+    let is : IsChangeTo g.row.B c.sectors.result c.args.survey.now.layout c.args.wanted.now (Mbr c.in-Mbr.change) =
+    subst (IsChangeTo g.row.B c.sectors.result c.args.survey.now.layout c.args.wanted.now) c.in-Mbr.is c.in-Some.ensures.some in
     let count = c.sectors.ensures ∙ sym c.in_ok-places.ensures.same.same_count in (
       omega arith,
       (
@@ -99,19 +99,19 @@ to_mbr-requires g c =
           (
             is.0,
             (
-              subst (λ (n : ℕ). IsMbrChange n c.args.known.now.old c.in-Mbr.change) count is.1,
+              subst (λ (n : ℕ). IsMbrChange n c.args.survey.now.layout c.in-Mbr.change) count is.1,
               (
                 rw c.in_ok-places.ensures.same.same_count c.in_ok-places.ensures.in_range,
                 (
-                  λ tells. rw (c.in_ok-places.ensures.same.same tells) (c.requires.known tells),
+                  λ tells. rw (c.in_ok-places.ensures.same.same tells) (c.requires.survey tells),
                   (
                     λ tells. rw (c.in_ok-places.ensures.same.same tells)
-                        (starts g.row.B (g.D.Disk.told c.args.disk.now).seen c.args.known.now c.args.wanted.now
-                        (c.requires.known tells) c.in_ok-be_sound.ensures.ok
+                        (starts g.row.B (g.D.Disk.told c.args.disk.now).seen c.args.survey.now c.args.wanted.now
+                        (c.requires.survey tells) c.in_ok-be_sound.ensures.ok
                         (c.in-Some.ensures.sectors ∙ c.sectors.ensures ∙ sym (g.met.D.Disk.sized c.args.disk.now tells))
                         c.is_done.ensures.stays
                         (isnt c.is_done.result c.if-is_done.false
-                        (c.is_done.ensures.done (g.D.Disk.told c.args.disk.now).seen (c.requires.known tells)))),
+                        (c.is_done.ensures.done (g.D.Disk.told c.args.disk.now).seen (c.requires.survey tells)))),
                     λ tells. rw (c.in_ok-places.ensures.same.same tells) (c.in_ok-places.ensures.ok tells),
                   ),
                 ),
@@ -124,8 +124,8 @@ to_mbr-requires g c =
 
 pub to_gpt-requires : goal.to_gpt-requires
 to_gpt-requires g c =
-    let is : IsChangeTo g.row.B c.sectors.result c.args.known.now.old c.args.wanted.now (Gpt c.in-Gpt.table) =
-    subst (IsChangeTo g.row.B c.sectors.result c.args.known.now.old c.args.wanted.now) c.in-Gpt.is c.in-Some.ensures.some in
+    let is : IsChangeTo g.row.B c.sectors.result c.args.survey.now.layout c.args.wanted.now (Gpt c.in-Gpt.table) =
+    subst (IsChangeTo g.row.B c.sectors.result c.args.survey.now.layout c.args.wanted.now) c.in-Gpt.is c.in-Some.ensures.some in
     let count = c.sectors.ensures ∙ sym c.in_ok-places.ensures.same.same_count in (
       omega arith,
       (
@@ -139,15 +139,15 @@ to_gpt-requires g c =
               (
                 rw c.in_ok-places.ensures.same.same_count c.in_ok-places.ensures.in_range,
                 (
-                  λ tells. rw (c.in_ok-places.ensures.same.same tells) (c.requires.known tells),
+                  λ tells. rw (c.in_ok-places.ensures.same.same tells) (c.requires.survey tells),
                   (
                     λ tells. rw (c.in_ok-places.ensures.same.same tells)
-                        (starts g.row.B (g.D.Disk.told c.args.disk.now).seen c.args.known.now c.args.wanted.now
-                        (c.requires.known tells) c.in_ok-be_sound.ensures.ok
+                        (starts g.row.B (g.D.Disk.told c.args.disk.now).seen c.args.survey.now c.args.wanted.now
+                        (c.requires.survey tells) c.in_ok-be_sound.ensures.ok
                         (c.in-Some.ensures.sectors ∙ c.sectors.ensures ∙ sym (g.met.D.Disk.sized c.args.disk.now tells))
                         c.is_done.ensures.stays
                         (isnt c.is_done.result c.if-is_done.false
-                        (c.is_done.ensures.done (g.D.Disk.told c.args.disk.now).seen (c.requires.known tells)))),
+                        (c.is_done.ensures.done (g.D.Disk.told c.args.disk.now).seen (c.requires.survey tells)))),
                     λ tells. rw (c.in_ok-places.ensures.same.same tells) (c.in_ok-places.ensures.ok tells),
                   ),
                 ),
@@ -178,9 +178,9 @@ returns-in-Mbr g c = record {
   err =
       λ tells.
       let d = (g.D.Disk.told c.args.disk.now).seen in
-      let known = c.requires.known tells in
-      err_so c.to_mbr.result _ _ (hindered g.row.B d c.args.known.now.old c.args.wanted.now known.old c.in_ok-be_sound.ensures.ok
-      (isnt c.is_done.result c.if-is_done.false (c.is_done.ensures.done d known)) (c.in_ok-places.ensures.none_left tells))
+      let survey = c.requires.survey tells in
+      err_so c.to_mbr.result _ _ (hindered g.row.B d c.args.survey.now.layout c.args.wanted.now survey.layout c.in_ok-be_sound.ensures.ok
+      (isnt c.is_done.result c.if-is_done.false (c.is_done.ensures.done d survey)) (c.in_ok-places.ensures.none_left tells))
       (rw (c.in_ok-places.ensures.same.same tells) at (c.to_mbr.ensures.err tells));
 }
 
@@ -204,8 +204,8 @@ returns-in-Gpt g c = record {
   err =
       λ tells.
       let d = (g.D.Disk.told c.args.disk.now).seen in
-      let known = c.requires.known tells in
-      err_so c.to_gpt.result _ _ (hindered g.row.B d c.args.known.now.old c.args.wanted.now known.old c.in_ok-be_sound.ensures.ok
-      (isnt c.is_done.result c.if-is_done.false (c.is_done.ensures.done d known)) (c.in_ok-places.ensures.none_left tells))
+      let survey = c.requires.survey tells in
+      err_so c.to_gpt.result _ _ (hindered g.row.B d c.args.survey.now.layout c.args.wanted.now survey.layout c.in_ok-be_sound.ensures.ok
+      (isnt c.is_done.result c.if-is_done.false (c.is_done.ensures.done d survey)) (c.in_ok-places.ensures.none_left tells))
       (rw (c.in_ok-places.ensures.same.same tells) at (c.to_gpt.ensures.err tells));
 }

@@ -30,6 +30,6 @@ returns-clause-err g c = λ tells. err_so c.keep_primary.result _ _ (λ e is. fa
 pub returns-in_err-plan-clause-err : goal.returns-in_err-plan-clause-err
 returns-in_err-plan-clause-err g c = λ tells.
     let p = err_from_is_err_and c.from_residual.result c.from_residual.ensures.1 in
-    rw (p.1, p.2) (as_ever (none_first g.row.B c.sectors.result (g.D.Disk.told c.args.disk.now).seen c.args.known.now c.args.wanted.now
-    (c.requires.known tells) (g.met.D.Disk.sized c.args.disk.now tells ∙ sym c.sectors.ensures) (unless _ c.if-is_first_mbr.ensures))
+    rw (p.1, p.2) (as_ever (none_first g.row.B c.sectors.result (g.D.Disk.told c.args.disk.now).seen c.args.survey.now c.args.wanted.now
+    (c.requires.survey tells) (g.met.D.Disk.sized c.args.disk.now tells ∙ sym c.sectors.ensures) (unless _ c.if-is_first_mbr.ensures))
     (c.in_err-plan.ensures.err tells))

@@ -14,8 +14,8 @@ use Rattle.pt_planner.proofs.plans.to_gpt.Goals as goal
 pub returns-then-changes_labels : goal.returns-then-changes_labels
 returns-then-changes_labels g c =
     let start = λ (tells : g.D.Disk.tells).
-    (label_start (g.D.Disk.told c.args.disk.now).seen c.args.known.now c.args.wanted.now c.args.table.now c.is_broken.result
-    c.args.places.items (c.requires.known tells) (c.requires.start tells) c.requires.body
+    (label_start (g.D.Disk.told c.args.disk.now).seen c.args.survey.now c.args.wanted.now c.args.table.now c.is_broken.result
+    c.args.places.items (c.requires.survey tells) (c.requires.start tells) c.requires.body
     (c.changes_labels.ensures.0 c.if-changes_labels.true) c.is_broken.ensures (c.requires.places tells)) in
     record {
       same = g.met.D.Disk.reads_same c.args.disk.now;
@@ -30,7 +30,7 @@ returns-then-changes_labels g c =
           c.one_label.ensures.plan;
       err = λ tells.
           err_so c.one_label.result _ _ (λ e each.
-          turn_hinders g.row.B (g.D.Disk.told c.args.disk.now).seen c.args.known.now.old c.args.wanted.now e
+          turn_hinders g.row.B (g.D.Disk.told c.args.disk.now).seen c.args.survey.now.layout c.args.wanted.now e
           (each (g.D.Disk.told c.args.disk.now).seen c.args.wanted.now (start tells)))
           c.one_label.ensures.err;
     }
@@ -52,8 +52,8 @@ pub returns : goal.returns
 returns g c =
     let same = c.sectors.ensures ∙ c.in_ok-order.ensures.same.same_count in
     let start = λ (tells : g.D.Disk.tells).
-    (copies_start (g.D.Disk.told c.args.disk.now).seen c.args.known.now c.args.wanted.now c.args.table.now c.in_ok-order.order
-    c.args.places.items (c.requires.known tells) (c.requires.start tells) c.requires.body
+    (copies_start (g.D.Disk.told c.args.disk.now).seen c.args.survey.now c.args.wanted.now c.args.table.now c.in_ok-order.order
+    c.args.places.items (c.requires.survey tells) (c.requires.start tells) c.requires.body
     (subst (λ n. FitsTable g.row.B n c.args.table.now) (sym (g.met.D.Disk.sized c.args.disk.now tells)) c.requires.fits)
     (isnt c.changes_labels.result c.if-changes_labels.false c.changes_labels.ensures) (c.in_ok-order.ensures.order tells)
     (c.requires.places tells)) in
@@ -70,7 +70,7 @@ returns g c =
           c.both_copies.ensures.plan;
       err = λ tells.
           err_so c.both_copies.result _ _
-          (λ e each. copies_hinder g.row.B (g.D.Disk.told c.args.disk.now).seen c.args.known.now.old c.args.wanted.now e
+          (λ e each. copies_hinder g.row.B (g.D.Disk.told c.args.disk.now).seen c.args.survey.now.layout c.args.wanted.now e
           (each (g.D.Disk.told c.args.disk.now).seen c.args.wanted.now
           (g.met.D.Disk.sized c.args.disk.now tells ∙ sym same) (start tells)))
           c.both_copies.ensures.err;

@@ -35,7 +35,7 @@ returns-in_err-targets g c =
       some = rw p.1 tt;
       plan = λ tells. rw p.1 tt;
       err = λ tells.
-          rw (p.1, p.2) (failure_hindered g.row.B (g.D.Disk.told c.args.disk.now).seen c.args.known.now.old c.args.wanted.now
+          rw (p.1, p.2) (failure_hindered g.row.B (g.D.Disk.told c.args.disk.now).seen c.args.survey.now.layout c.args.wanted.now
           c.in_err-targets.field-0.0);
     }
 
@@ -65,8 +65,8 @@ returns-in-Some g c =
     let heads : AreMbrTargets {b = g.row.B} d change.old_records.now change.old_chain.now change.records.now change.chain.now
     c.in-Some.heads.items =
     rw c.in-Some.is at (c.in_ok-targets.ensures.some tells) in
-    mbr_start d n c.args.known.now c.args.wanted.now change c.in-Some.heads.items c.args.places.items
-    (g.met.D.Disk.sized c.args.disk.now tells) (c.requires.known tells) (c.requires.start tells) c.requires.change c.requires.body
+    mbr_start d n c.args.survey.now c.args.wanted.now change c.in-Some.heads.items c.args.places.items
+    (g.met.D.Disk.sized c.args.disk.now tells) (c.requires.survey tells) (c.requires.start tells) c.requires.change c.requires.body
     c.requires.change.four heads (c.requires.places tells)) in
     record {
       same = c.in_ok-targets.ensures.same;
@@ -82,7 +82,7 @@ returns-in-Some g c =
       plan = λ tells. ok_so result _ _ (λ plan each. each (g.D.Disk.told c.args.disk.now).seen c.args.wanted.now (start tells))
           c.within_mbr.ensures.plan;
       err = λ tells. err_so result _ _
-          (λ e each. turn_hinders g.row.B (g.D.Disk.told c.args.disk.now).seen c.args.known.now.old c.args.wanted.now e
+          (λ e each. turn_hinders g.row.B (g.D.Disk.told c.args.disk.now).seen c.args.survey.now.layout c.args.wanted.now e
           (each (g.D.Disk.told c.args.disk.now).seen c.args.wanted.now (start tells)))
           c.within_mbr.ensures.err;
     }
