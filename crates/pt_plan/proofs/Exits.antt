@@ -9,7 +9,7 @@ use Rattle.pt_sector.specs.declared.disk.Fault.{Fault}
 use Rattle.pt_sector.specs.declared.disk.Fault.TheVariants.{Read, Write, Flush}
 use Rattle.pt_sector.proofs.Since.{leaves_once, leaves_through, leaves_weaker}
 use Rattle.pt_apply.specs.Plans.{faults_of, Settled, StoppedSomewhere, CallFailed, Keeps}
-use Rattle.pt_recover.specs.declared.error.NoTable.{NoTable as Reason}
+use Rattle.pt_recover.specs.declared.error.NoTable.{NoTable as NoTableValue}
 use Rattle.pt_members.specs.declared.layout.Layout.{Layout}
 use Rattle.pt_words.specs.declared.error.Refusal.{Refusal}
 use Rattle.pt_cases.specs.declared.targets.error.PlanError.{PlanError}
@@ -38,7 +38,7 @@ pub met_read : (fault : Option Fault) (old new : List Fault) → new ≡ with_fa
 met_read (Some fault) old new one came = came_one old new fault one came
 met_read None old new one came = tt
 
-module _ {W : Type 0} (denotes : Sectors → Option Layout → Type 0) (reason : Sectors → Reason → Type 0) (makes : W → Type 0)
+module _ {W : Type 0} (denotes : Sectors → Option Layout → Type 0) (reason : Sectors → NoTableValue → Type 0) (makes : W → Type 0)
     (edited : Option Layout → W → Result Layout Refusal → Type 0) (plans : Sectors → Layout → List Writes → Type 0)
     (unplanned : Sectors → Layout → PlanError → Type 0) (healthy : Sectors → Type 0) (table owned : Option Layout → ℕ → Type 0)
     (words : W) where

@@ -1,10 +1,8 @@
 -- The steps before a repair's first write.
-use Rattle.std.proofs.Common.{◌≡◌, ◌∙◌, inl, inr, ℕ, List, [], Option, Some, None, Result, Ok, Err, IfErr, refl, sym, subst}
+use Rattle.std.proofs.Common.{◌≡◌, ◌∙◌, inl, inr, ℕ, List, [], Option, Some, Result, Ok, Err, IfErr, subst}
 use Rattle.pt_sector.specs.Sectors.{Sectors, IsSectorSize, Writes}
-use Rattle.pt_recover.specs.Denotes.{failure_in, Denotes}
+use Rattle.pt_recover.specs.Denotes.{Denotes}
 use Rattle.pt_recover.proofs.Terms.{denotes_one_lem}
-use Rattle.pt_recover.specs.declared.error.NoTable.{NoTable as Reason}
-use Rattle.pt_recover.specs.declared.error.NoTable.TheVariants as reason
 use Rattle.pt_members.specs.declared.layout.Layout.{Layout}
 use Rattle.pt_layout.specs.Healthy.{Healthy, IsHealthy}
 use Rattle.pt_plan.proofs.EveryPlan.{plan_finishes, plan_not_refused}
@@ -14,7 +12,6 @@ use Rattle.pt_cases.specs.declared.primary.Primary.{Primary as Choice}
 use Rattle.pt_cases.specs.declared.primary.Primary.TheVariants.{Zeroed, Kept}
 use Rattle.pt_cases.specs.Cases.{IsPlan, idle, backup_first, primary_first, from_mbr, one_label, within_mbr}
 use Rattle.pt_cases.proofs.Mended.{repair_is_planned_lem, mendable_by_plan_lem}
-use Rattle.pt_planner.specs.PlanReads.{ReasonIs}
 use Rattle.pt_layout.specs.declared.sound.finding.Finding.{Finding}
 use Rattle.pt_cases.specs.Unplanned.{IsUnmendable, IsUnmendableBy, IsFailure, Unplanned}
 use Rattle.pt_cases.specs.declared.targets.error.PlanError.{PlanError}
@@ -135,14 +132,3 @@ module _ (primary : Choice) (b : ℕ) (d : Sectors) (size : IsSectorSize b) wher
     not_safe_to_mend (Check why) against = absurd (plan_not_refused b d is.layout phases primary why size is.planned against)
     not_safe_to_mend (Device fault) is_failed = tt
     not_safe_to_mend Memory is_failed = tt
-
--- a disk that denotes nothing
-pub nothing_to_mend : (b : ℕ) (d : Sectors) (old : Option Layout) (r : Option Reason) → old ≡ None → Denotes b d old
-    → ReasonIs b d old r → (e : CommitError)
-    → ((x : Reason) → r ≡ Some x → failure_in x ≡ None → e ≡ NoTable x) → IsMendRefusal b d (repair_told e)
-nothing_to_mend b d (Some o) r none from is e told = absurd cc
-nothing_to_mend b d None None none from is e told = absurd is
-nothing_to_mend b d None (Some (reason.Device at)) none from is e told = absurd is
-nothing_to_mend b d None (Some reason.Memory) none from is e told = absurd is
-nothing_to_mend b d None (Some x) none from is e told =
-    subst (λ (c : CommitError). IsMendRefusal b d (repair_told c)) (sym (told x refl refl)) (from, is)

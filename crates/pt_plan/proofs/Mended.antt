@@ -8,7 +8,7 @@ use Rattle.pt_sector.specs.declared.disk.Fault.{Fault}
 use Rattle.pt_sector.specs.declared.disk.Fault.TheVariants.{Read, Write, Flush}
 use Rattle.pt_sector.proofs.Since.{leaves_once, leaves_through, leaves_weaker}
 use Rattle.pt_apply.specs.Plans.{Settled, StoppedSomewhere, Reached, CallFailed, Keeps}
-use Rattle.pt_recover.specs.declared.error.NoTable.{NoTable as Reason}
+use Rattle.pt_recover.specs.declared.error.NoTable.{NoTable as NoTableValue}
 use Rattle.pt_members.specs.declared.layout.Layout.{Layout}
 use Rattle.pt_layout.specs.declared.sound.finding.Finding.{Finding}
 use Rattle.pt_words.specs.declared.error.Refusal.{Refusal}
@@ -55,7 +55,7 @@ idle_failed d phases old new fault none failed =
     let within = failed.within in
     omega (arith, ap length none)
 
-module _ {W : Type 0} (denotes : Sectors → Option Layout → Type 0) (reason : Sectors → Reason → Type 0)
+module _ {W : Type 0} (denotes : Sectors → Option Layout → Type 0) (reason : Sectors → NoTableValue → Type 0)
     (edited : Option Layout → W → Result Layout Refusal → Type 0) (plans : Sectors → Layout → List Writes → Type 0)
     (unmendable : Sectors → Layout → Finding → Type 0) (healthy : Sectors → Type 0) (table owned : Option Layout → ℕ → Type 0) where
   pub at_failed_flush : (fault : Fault) (old new : Told) → fault ≡ Flush → FailedFlush old new

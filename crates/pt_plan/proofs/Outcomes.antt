@@ -5,7 +5,7 @@ use Rattle.pt_sector.specs.Device.{Told, MayLeave, Flushed, FailedFlush, LeavesO
 use Rattle.pt_sector.specs.declared.disk.Fault.{Fault}
 use Rattle.pt_sector.specs.declared.disk.Fault.TheVariants.{Flush}
 use Rattle.pt_apply.specs.Plans.{Settled, StoppedSomewhere, Reached, CallFailed}
-use Rattle.pt_recover.specs.declared.error.NoTable.{NoTable as Reason}
+use Rattle.pt_recover.specs.declared.error.NoTable.{NoTable as NoTableValue}
 use Rattle.pt_members.specs.declared.layout.Layout.{Layout}
 use Rattle.pt_layout.specs.declared.sound.finding.Finding.{Finding}
 use Rattle.pt_words.specs.declared.error.Refusal.{Refusal}
@@ -57,7 +57,7 @@ module _ (is_ready : Sectors → List Writes → Type 0) (is_refusal : Sectors �
         came_applied settled reached = applied refl begun settled reached
 
 -- a commit of words whose plans these are
-module _ {W : Type 0} (denotes : Sectors → Option Layout → Type 0) (reason : Sectors → Reason → Type 0) (makes : W → Type 0)
+module _ {W : Type 0} (denotes : Sectors → Option Layout → Type 0) (reason : Sectors → NoTableValue → Type 0) (makes : W → Type 0)
     (edited : Option Layout → W → Result Layout Refusal → Type 0) (plans : Sectors → Layout → List Writes → Type 0)
     (no_plan : Sectors → Layout → PlanError → Type 0) (healthy : Sectors → Type 0) (table owned : Option Layout → ℕ → Type 0)
     (words : W) (one : (d : Sectors) (o p : Option Layout) → denotes d o → denotes d p → o ≡ p) (old new : Told)
@@ -80,7 +80,7 @@ module _ {W : Type 0} (denotes : Sectors → Option Layout → Type 0) (reason :
       run.any_moment settled)
 
 -- a repair whose plans these are
-module _ {W : Type 0} (denotes : Sectors → Option Layout → Type 0) (reason : Sectors → Reason → Type 0)
+module _ {W : Type 0} (denotes : Sectors → Option Layout → Type 0) (reason : Sectors → NoTableValue → Type 0)
     (edited : Option Layout → W → Result Layout Refusal → Type 0) (plans : Sectors → Layout → List Writes → Type 0)
     (unmendable : Sectors → Layout → Finding → Type 0) (healthy : Sectors → Type 0) (table owned : Option Layout → ℕ → Type 0)
     (one : (d : Sectors) (o p : Option Layout) → denotes d o → denotes d p → o ≡ p)

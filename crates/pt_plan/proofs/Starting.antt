@@ -2,16 +2,20 @@
 use Rattle.std.proofs.Common.{◌≡◌, ◌∙◌, ℕ, zero, suc, ◌+◌, ◌<◌, List, [], ◌∷◌, length, drop, get_or, Option, Some, None, Ok, Err, refl}
 use Rattle.std.proofs.Common.{sym, ap, subst, arith, add-one}
 use Rattle.pt_sector.specs.Sectors.{Sectors, IsSectorSize, Writes}
-use Rattle.pt_recover.specs.Denotes.{IsReason, failure_in, Denotes}
-use Rattle.pt_recover.specs.declared.error.NoTable.{NoTable as Reason}
-use Rattle.pt_recover.specs.declared.error.NoTable.TheVariants as reason
+use Rattle.pt_recover.specs.Denotes.{IsOutsideDisk, IsReason, Denotes, told_reason}
+use Rattle.pt_recover.proofs.Told.{told_inside}
+use Rattle.pt_recover.specs.declared.error.Reason.{Reason}
+use Rattle.pt_recover.specs.declared.error.NoTable.{NoTable as NoTableValue}
 use Rattle.pt_layout.specs.Healthy.{Healthy}
+use Rattle.pt_layout.specs.Surveys.{FindingIs, IsSurvey}
+use Rattle.pt_layout.specs.declared.sound.finding.Finding.TheVariants as finding
+use Rattle.pt_layout.specs.declared.survey.Survey.{Survey}
 use Rattle.pt_members.specs.Tables.{OwnedOf, TableOf}
 use Rattle.pt_plan.proofs.EveryPlan.{plan_finishes, plan_not_refused}
 use Rattle.pt_cases.specs.Kept.{IsPlanBy}
 use Rattle.pt_cases.specs.NewMbr.{UnplannedBy}
 use Rattle.pt_cases.specs.declared.primary.Primary.{Primary as Choice}
-use Rattle.pt_planner.specs.PlanReads.{ReasonIs, PlanReadsBy}
+use Rattle.pt_planner.specs.PlanReads.{PlanReadsBy}
 use Rattle.pt_cases.specs.Unplanned.{fault_in}
 use Rattle.pt_cases.specs.declared.targets.error.PlanError.{PlanError}
 use Rattle.pt_cases.specs.declared.targets.error.PlanError.TheVariants as plan
@@ -122,25 +126,24 @@ ready primary b n batch d phases size is safe = record {
   safe = safe.safe;
 }
 
--- a disk that denotes nothing has a reason, which is no failure
-reason_inside : (b : ℕ) (d : Sectors) (r : Reason) → ReasonIs b d None (Some r) → failure_in r ≡ None
-reason_inside b d (reason.Device at) is = absurd is
-reason_inside b d reason.Memory is = absurd is
-reason_inside b d _ is = refl
+-- a reason hides no failure
+pub reason_hides : (e : NoTableValue) → (r : Reason) × (e ≡ told_reason r) → HidesNoFailure (NoTable e)
+reason_hides e (r, is) = subst (λ (x : NoTableValue). ¬ IsOutsideDisk x) (sym is) (told_inside r)
 
-pub starts : (b : ℕ) (batch : Words) (d : Sectors) (o : Option Layout) (r : Option Reason) → Denotes b d o → ReasonIs b d o r
-    → MayStart r (MakesTable batch.edits) (Ok tt) → StartsFrom b batch d o
-starts b batch d None None from is may = absurd is
-starts b batch d None (Some r) from is may = record { from = from; may = λ none. may }
-starts b batch d (Some l) r from is may = record { from = from; may = λ none. absurd cc }
+-- the reason that a survey finds is the disk's
+pub reason_is : (b : ℕ) (d : Sectors) (x : Survey) (r : NoTableValue) → IsSurvey b d x → x.finding ≡ Some (finding.NoTable r)
+    → Denotes b d None × IsReason b d r
+reason_is b d x r is why = subst (FindingIs b d x.layout) why is.finding
 
-pub no_start : (primary : Choice) (b n : ℕ) (batch : Words) (d : Sectors) (o : Option Layout) (r : Option Reason) → Denotes b d o
-    → ReasonIs b d o r
-    → (e : CommitError) → MayStart r (MakesTable batch.edits) (Err e) → IsRefusal primary b n batch d e
-no_start primary b n batch d o None from is e none = absurd none
-no_start primary b n batch d None (Some r) from is e (never, told) =
-    subst (IsRefusal primary b n batch d) (sym (told (reason_inside b d r is))) (from, is, never)
-no_start primary b n batch d (Some l) (Some r) from is e against = absurd is
+pub starts : (b : ℕ) (batch : Words) (d : Sectors) (x : Survey) → IsSurvey b d x → MayStart x (MakesTable batch.edits) (Ok tt)
+    → StartsFrom b batch d x.layout
+starts b batch d x is may = record { from = is.layout; may = may }
+
+pub no_start : (primary : Choice) (b n : ℕ) (batch : Words) (d : Sectors) (x : Survey) → IsSurvey b d x
+    → (e : CommitError) → MayStart x (MakesTable batch.edits) (Err e) → IsRefusal primary b n batch d e
+no_start primary b n batch d x is e (never, (r, why, same)) =
+    let told = reason_is b d x r is why in
+    subst (IsRefusal primary b n batch d) (sym same) (told.0, told.1, never)
 
 -- no read failed where the words make no layout
 pub not_edited_nowhere : (b n : ℕ) (o : Option Layout) (batch : Words) (S : ℕ → Type 0) (e : CommitError) → NotEdited b n o batch e

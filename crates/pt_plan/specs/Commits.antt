@@ -5,7 +5,7 @@ use Rattle.pt_sector.specs.Device.{Told, MayLeave, LeavesOnly, Flushed, FailedFl
 use Rattle.pt_sector.specs.declared.disk.Fault.{Fault}
 use Rattle.pt_sector.specs.declared.disk.Fault.TheVariants.{Read, Write, Flush}
 use Rattle.pt_apply.specs.Plans.{Settled, CallFailed, Keeps, Safe, StoppedSomewhere}
-use Rattle.pt_recover.specs.declared.error.NoTable.{NoTable as Reason}
+use Rattle.pt_recover.specs.declared.error.NoTable.{NoTable as NoTableValue}
 use Rattle.pt_members.specs.declared.layout.Layout.{Layout}
 use Rattle.pt_words.specs.declared.error.Refusal.{Refusal}
 use Rattle.pt_cases.specs.declared.targets.error.PlanError.{PlanError}
@@ -85,7 +85,7 @@ abbrev pub past : {W : Type 0} → W → Result Unit CommitError → Past W
 past words (Ok x) = Done words
 past words (Err e) = refused words e
 
-module _ {W : Type 0} (denotes : Sectors → Option Layout → Type 0) (reason : Sectors → Reason → Type 0) (makes : W → Type 0)
+module _ {W : Type 0} (denotes : Sectors → Option Layout → Type 0) (reason : Sectors → NoTableValue → Type 0) (makes : W → Type 0)
     (edited : Option Layout → W → Result Layout Refusal → Type 0) (plans : Sectors → Layout → List Writes → Type 0)
     (unplanned : Sectors → Layout → PlanError → Type 0) (healthy : Sectors → Type 0) (table owned : Option Layout → ℕ → Type 0) where
   -- the words lead from what d denotes to the layout l
@@ -223,7 +223,7 @@ HidesNoFailure (commit.Plan e) = ¬ IsFailure e
 HidesNoFailure _ = Unit {0}
 
 -- what a commit tells where there is no table, of a failure, of an edit's refusal, and of the planner's and the checker's errors
-abbrev pub commit_untabled : Reason → CommitError
+abbrev pub commit_untabled : NoTableValue → CommitError
 commit_untabled (nothing.Device at) = commit.Device (Read at)
 commit_untabled nothing.Memory = commit.Memory
 commit_untabled e = commit.NoTable e

@@ -15,8 +15,8 @@ use Rattle.pt_plan.specs.declared.like_error.LikeError.{LikeError}
 use Rattle.pt_plan.specs.declared.like_error.LikeError.TheVariants.{OtherSize, Other, Disk}
 use Rattle.pt_check.specs.Answers.{Answers, Promises}
 use Rattle.pt_check.specs.declared.answer.Answer.TheVariants.{No, Yes}
-use Rattle.pt_plan.specs.declared.finished.After.{After}
-use Rattle.pt_plan.specs.declared.finished.After.TheVariants as outcome
+use Rattle.pt_plan.specs.declared.checked.After.{After}
+use Rattle.pt_plan.specs.declared.checked.After.TheVariants as outcome
 
 -- ## Commits of a layout. It is a commit of the change to that layout.
 

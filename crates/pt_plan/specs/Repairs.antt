@@ -5,7 +5,7 @@ use Rattle.pt_sector.specs.Device.{Told, Flushed, FailedFlush, LeavesOnly}
 use Rattle.pt_sector.specs.declared.disk.Fault.{Fault}
 use Rattle.pt_sector.specs.declared.disk.Fault.TheVariants.{Read, Write, Flush}
 use Rattle.pt_apply.specs.Plans.{Settled, CallFailed, Keeps, Safe}
-use Rattle.pt_recover.specs.declared.error.NoTable.{NoTable as Reason}
+use Rattle.pt_recover.specs.declared.error.NoTable.{NoTable as NoTableValue}
 use Rattle.pt_members.specs.declared.layout.Layout.{Layout}
 use Rattle.pt_layout.specs.declared.sound.finding.Finding.{Finding}
 use Rattle.pt_words.specs.declared.error.Refusal.{Refusal}
@@ -29,7 +29,7 @@ module _ (denotes : Sectors → Option Layout → Type 0) (unmendable : Sectors 
 
 -- why d isn't mended: it denotes nothing, or there is a finding that no repair mends. Never because there is no plan
 -- else, or because the checker refuses it
-abbrev pub RefusesToMend : (Sectors → Option Layout → Type 0) → (Sectors → Reason → Type 0) → (Sectors → Layout → Finding → Type 0)
+abbrev pub RefusesToMend : (Sectors → Option Layout → Type 0) → (Sectors → NoTableValue → Type 0) → (Sectors → Layout → Finding → Type 0)
     → Sectors → RepairError → Type 0
 RefusesToMend denotes reason unmendable d (NoTable e) = denotes d None × reason d e
 RefusesToMend denotes reason unmendable d (Unsound f) = (l : Layout) × denotes d (Some l) × unmendable d l f
@@ -82,7 +82,7 @@ module _ (denotes : Sectors → Option Layout → Type 0) (plans : Sectors → L
   abbrev pub MendBounded : Sectors → Sectors → Type 0
   MendBounded d c = (l : Layout) × Mendable denotes unmendable d l × Keeps denotes healthy table owned (Some l) (Some l) d c
 
-module _ {W : Type 0} (denotes : Sectors → Option Layout → Type 0) (reason : Sectors → Reason → Type 0)
+module _ {W : Type 0} (denotes : Sectors → Option Layout → Type 0) (reason : Sectors → NoTableValue → Type 0)
     (edited : Option Layout → W → Result Layout Refusal → Type 0) (plans : Sectors → Layout → List Writes → Type 0)
     (unmendable : Sectors → Layout → Finding → Type 0) (healthy : Sectors → Type 0) (table owned : Option Layout → ℕ → Type 0) where
   -- at the return: the disk is healthy and durable, with the layout that it denoted, and no byte is another but those that a plan

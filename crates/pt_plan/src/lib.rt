@@ -5,7 +5,6 @@
 mod checked;
 mod commits;
 mod error;
-mod finished;
 pub mod laws;
 mod layouts;
 mod like;
@@ -17,10 +16,9 @@ pub mod runs;
 mod wanted;
 mod writing;
 
-pub use checked::apply_checked;
+pub use checked::{After, apply_checked, layout_after};
 pub use commits::{checked_plan_for, commit, plan_for};
 pub use error::CommitError;
-pub use finished::{After, layout_after};
 pub use layouts::{checked_plan_for_layout, commit_layout, plan_for_layout};
 pub use like::{
     checked_plan_like, checked_plan_like_by, commit_like, commit_like_by, plan_like, plan_like_by,

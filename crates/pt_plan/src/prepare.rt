@@ -1,29 +1,27 @@
 //! The steps of a commit and of a repair before their first write.
 
-ghost use Rattle.std.specs.Prelude.{◌≡◌, ◌↔◌, ◌<◌, All, length, Ok, Some, None, OnOk, IfOk, IfErr, IsTrue};
+ghost use Rattle.std.specs.Prelude.{◌≡◌, ◌↔◌, ◌<◌, All, length, Ok, None, OnOk, IfOk, IfErr, IsTrue};
 ghost use Rattle.pt_sector.specs.Sectors.{IsSectorSize};
 ghost use Rattle.pt_sector.specs.Device.{Blames};
 ghost use Rattle.pt_sector.specs.Overlays.{OnlyReads};
 ghost use Rattle.pt_apply.specs.Plans.{phases_of, InRange};
-ghost use Rattle.pt_recover.specs.Denotes.{failure_in};
-ghost use Rattle.pt_recover.specs.declared.error.NoTable.{NoTable as Reason};
+ghost use Rattle.pt_layout.specs.Surveys.{IsSurvey, Tells};
 ghost use Rattle.pt_cases.specs.Kept.{IsPlanBy};
-ghost use Rattle.pt_check.specs.Answers.{CheckReads, IsRecoveredOf};
-ghost use Rattle.pt_planner.specs.PlanReads.{IsKnown, ReasonIs, PlanReadsBy};
+ghost use Rattle.pt_check.specs.Answers.{CheckReads};
+ghost use Rattle.pt_planner.specs.PlanReads.{PlanReadsBy};
 ghost use Rattle.pt_plan.specs.Batches.{MakesTable, EditedBy, FailedInCommit};
 ghost use Rattle.pt_plan.specs.Commits.{commit_fault_in as fault_in, HidesNoFailure};
 ghost use Rattle.pt_plan.specs.inner.Commits.{sectors_in, MayStart, NotEdited, NotPlanned, IsSafe, NotSafe};
 ghost use Rattle.pt_plan.specs.Wanted.{IsPlanOf, IsReadyOf, IsRefusedBy, PlanOfReads, WriteOfReads};
-ghost use Rattle.pt_plan.specs.declared.error.CommitError.TheVariants as commit;
 
 use crate::error::CommitError;
 use crate::wanted::Wanted;
 use pt_apply::Plan;
-use pt_check::{Answer, Recovered, check_known};
+use pt_check::{Answer, check_known};
 use pt_edit::{Edit, edit};
 use pt_guid::Guid;
-use pt_layout::{Layout, NoTable};
-use pt_planner::{Known, Primary, plan_by, read_known};
+use pt_layout::{Layout, Survey, survey_disk};
+use pt_planner::{Primary, plan_by};
 use pt_sector::{Disk, ReadCache, Room};
 use std::alloc::Global;
 
@@ -41,45 +39,20 @@ fn makes_table(edits: &[Edit]) -> bool
     false
 }
 
-/// What is reported of a disk that denotes nothing. The reason is what the disk holds, and no failure; where it were one,
-/// lack of memory would be reported.
-fn no_table(reason: NoTable) -> CommitError
-    ensures hides { HidesNoFailure result }
-    ensures blames { fault_in result ≡ None }
-    ensures told { failure_in reason ≡ None → result ≡ commit.NoTable reason }
-{
-    match reason.failure() {
-        Some(_) => CommitError::Memory,
-        None => CommitError::NoTable(reason),
-    }
-}
-
-/// What is reported of a disk that has no layout of its own. Where there were no reason, lack of memory would be reported.
-fn no_layout(reason: Option<NoTable>) -> CommitError
-    ensures hides { HidesNoFailure result }
-    ensures blames { fault_in result ≡ None }
-    ensures told { (r : Reason) → reason ≡ Some r → failure_in r ≡ None → result ≡ commit.NoTable r }
-{
-    match reason {
-        Some(reason) => no_table(reason),
-        None => CommitError::Memory,
-    }
-}
-
-/// Whether the words may start from what the disk denotes, by the reason why it denotes nothing: only such as make a table
-/// may start from nothing.
-fn may_start(reason: Option<NoTable>, edits: &[Edit]) -> Result<(), CommitError>
+/// Whether the words may start from what the disk denotes: only such as make a table may start from nothing.
+fn may_start(survey: &Survey, edits: &[Edit]) -> Result<(), CommitError>
+    requires tells { Tells survey.now }
     ensures hides { IfErr result HidesNoFailure }
     ensures blames { IfErr result (λ e. fault_in e ≡ None) }
-    ensures may { MayStart reason (MakesTable edits.now) result }
+    ensures may { MayStart survey.now (MakesTable edits.now) result }
 {
-    match reason {
-        None => Ok(()),
-        Some(reason) => {
+    match survey.layout {
+        Some(_) => Ok(()),
+        None => {
             if makes_table(edits) {
                 Ok(())
             } else {
-                Err(no_table(reason))
+                Err(CommitError::NoTable(survey.reason()))
             }
         }
     }
@@ -106,16 +79,16 @@ fn edited<const B: usize>(
     Ok(made)
 }
 
-/// The plan for a layout, by what is known of the disk.
+/// The plan for a layout, by a survey of the disk.
 fn planned<const B: usize, D: Disk<B>>(
     alloc: Global,
     disk: &mut D,
-    known: &Known,
+    survey: &Survey,
     wanted: &Layout,
     primary: Primary,
 ) -> Result<Plan<B>, CommitError>
     requires size { IsSectorSize B }
-    requires known { D.tells → IsKnown B (D.told disk.old).seen known.now }
+    requires survey { D.tells → IsSurvey B (D.told disk.old).seen survey.now }
     ensures same { OnlyReads D.Disk disk.old disk.new }
     ensures blames { Blames fault_in result (D.faults disk.old) (D.faults disk.new) }
     ensures place { D.tells → IfErr result (FailedInCommit (PlanReadsBy primary B (D.count disk.old) wanted.now)) }
@@ -125,27 +98,19 @@ fn planned<const B: usize, D: Disk<B>>(
     ensures plan { D.tells → IfOk result (λ plan. IsPlanBy primary B (D.told disk.old).seen wanted.now (phases_of plan)) }
     ensures err { D.tells → IfErr result (NotPlanned primary B (D.told disk.old).seen wanted.now) }
 {
-    let plan = plan_by(alloc, disk, known, wanted, primary)?;
+    let plan = plan_by(alloc, disk, survey, wanted, primary)?;
     Ok(plan)
 }
 
-/// What the checker needs to know of a disk.
-fn recovered(known: Known) -> Recovered
-    ensures { result ≡ record { layout = known.old; trace = known.trace } }
-{
-    let (layout, trace) = known.into_parts();
-    Recovered { layout, trace }
-}
-
-/// Checks a plan for a disk that was read already.
+/// Checks a plan for a disk that was surveyed.
 fn checked<const B: usize, D: Disk<B>>(
     alloc: Global,
     disk: &mut D,
     plan: &Plan<B>,
-    before: Recovered,
+    survey: Survey,
 ) -> Result<(), CommitError>
     requires size { IsSectorSize B }
-    requires known { D.tells → IsRecoveredOf B (D.told disk.old).seen before }
+    requires survey { D.tells → IsSurvey B (D.told disk.old).seen survey }
     ensures same { OnlyReads D.Disk disk.old disk.new }
     ensures blames { Blames fault_in result (D.faults disk.old) (D.faults disk.new) }
     ensures place { D.tells → IfErr result (FailedInCommit (CheckReads B (D.told disk.old).seen (phases_of plan.now))) }
@@ -153,25 +118,24 @@ fn checked<const B: usize, D: Disk<B>>(
     ensures ok { D.tells → OnOk result (IsSafe B (D.told disk.old).seen (phases_of plan.now)) }
     ensures err { D.tells → IfErr result (NotSafe B (D.told disk.old).seen (phases_of plan.now)) }
 {
-    let answer = check_known(alloc, disk, plan, before)?;
+    let answer = check_known(alloc, disk, plan, survey)?;
     match answer {
         Answer::Yes { .. } => Ok(()),
         Answer::No(why) => Err(CommitError::Check(why)),
     }
 }
 
-/// The plan for what is wanted, by what is known of the disk.
+/// The plan for what is wanted, by a survey of the disk.
 fn plan_known<const B: usize, D: Disk<B>>(
     alloc: Global,
     disk: &mut D,
-    known: &Known,
-    reason: Option<NoTable>,
+    survey: &Survey,
     wanted: &Wanted,
     primary: Primary,
 ) -> Result<Plan<B>, CommitError>
     requires size { IsSectorSize B }
-    requires known { D.tells → IsKnown B (D.told disk.old).seen known.now }
-    requires reason { D.tells → ReasonIs B (D.told disk.old).seen known.now.old reason }
+    requires tells { Tells survey.now }
+    requires survey { D.tells → IsSurvey B (D.told disk.old).seen survey.now }
     ensures same { OnlyReads D.Disk disk.old disk.new }
     ensures blames { Blames fault_in result (D.faults disk.old) (D.faults disk.new) }
     ensures place { D.tells → IfErr result
@@ -185,14 +149,14 @@ fn plan_known<const B: usize, D: Disk<B>>(
 {
     match wanted {
         Wanted::Edited(edits, guids) => {
-            may_start(reason, edits)?;
-            let layout = edited::<B>(alloc, &known.old, disk.sectors(), edits, guids)?;
-            planned(alloc, disk, known, &layout, primary)
+            may_start(survey, edits)?;
+            let layout = edited::<B>(alloc, &survey.layout, disk.sectors(), edits, guids)?;
+            planned(alloc, disk, survey, &layout, primary)
         }
-        Wanted::Layout(layout) => planned(alloc, disk, known, layout, primary),
-        Wanted::Own => match &known.old {
-            Some(own) => planned(alloc, disk, known, own, primary),
-            None => Err(no_layout(reason)),
+        Wanted::Layout(layout) => planned(alloc, disk, survey, layout, primary),
+        Wanted::Own => match &survey.layout {
+            Some(own) => planned(alloc, disk, survey, own, primary),
+            None => Err(CommitError::NoTable(survey.reason())),
         },
     }
 }
@@ -220,8 +184,8 @@ pub fn plan_wanted<const B: usize, D: Disk<B>>(
 {
     let room = Room::for_cache(alloc)?;
     let mut cache = ReadCache::new(disk, room);
-    let (known, reason) = read_known(alloc, &mut cache)?;
-    plan_known(alloc, &mut cache, &known, reason, wanted, primary)
+    let survey = survey_disk(alloc, &mut cache)?;
+    plan_known(alloc, &mut cache, &survey, wanted, primary)
 }
 
 /// The same plan, once the checker has accepted it. Nothing is flushed or written.
@@ -245,8 +209,8 @@ pub fn checked_plan_wanted<const B: usize, D: Disk<B>>(
 {
     let room = Room::for_cache(alloc)?;
     let mut cache = ReadCache::new(disk, room);
-    let (known, reason) = read_known(alloc, &mut cache)?;
-    let plan = plan_known(alloc, &mut cache, &known, reason, wanted, primary)?;
-    checked(alloc, &mut cache, &plan, recovered(known))?;
+    let survey = survey_disk(alloc, &mut cache)?;
+    let plan = plan_known(alloc, &mut cache, &survey, wanted, primary)?;
+    checked(alloc, &mut cache, &plan, survey)?;
     Ok(plan)
 }

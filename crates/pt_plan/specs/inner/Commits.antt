@@ -2,10 +2,12 @@
 use Rattle.std.specs.Prelude.{◌≡◌, ◌≢◌, ℕ, List, Option, Some, None, Result, Ok, Err, length}
 use Rattle.pt_sector.specs.Sectors.{Sectors, Writes, after}
 use Rattle.pt_apply.specs.Plans.{Safe, Settled, StoppedSomewhere, Reached, CallFailed}
-use Rattle.pt_recover.specs.Denotes.{failure_in, Denotes}
-use Rattle.pt_recover.specs.declared.error.NoTable.{NoTable as Reason}
+use Rattle.pt_recover.specs.Denotes.{Denotes}
+use Rattle.pt_recover.specs.declared.error.NoTable.{NoTable as NoTableValue}
 use Rattle.pt_members.specs.declared.layout.Layout.{Layout}
 use Rattle.pt_layout.specs.Healthy.{Healthy}
+use Rattle.pt_layout.specs.declared.sound.finding.Finding.TheVariants as finding
+use Rattle.pt_layout.specs.declared.survey.Survey.{Survey}
 use Rattle.pt_words.specs.declared.error.Refusal.TheVariants as refusal
 use Rattle.pt_members.specs.Tables.{OwnedOf, TableOf}
 use Rattle.pt_check.specs.Answers.{Answers}
@@ -33,12 +35,11 @@ abbrev pub sectors_in : Option Layout → ℕ → ℕ
 sectors_in None n = n
 sectors_in (Some o) n = o.sectors
 
--- whether it may start, by the reason why the disk denotes nothing: where there is one, only words that make a table may
-abbrev pub MayStart : Option Reason → Type 0 → Result Unit CommitError → Type 0
-MayStart None makes (Ok x) = Unit {0}
-MayStart None makes (Err e) = ⊥
-MayStart (Some r) makes (Ok x) = makes
-MayStart (Some r) makes (Err e) = (makes → ⊥) × (failure_in r ≡ None → e ≡ NoTable r)
+-- whether words may start from what a survey finds: from nothing only such as make a table may, and else the reason why there is nothing
+-- is told
+abbrev pub MayStart : Survey → Type 0 → Result Unit CommitError → Type 0
+MayStart x makes (Ok u) = x.layout ≡ None → makes
+MayStart x makes (Err e) = (makes → ⊥) × ((r : NoTableValue) × (x.finding ≡ Some (finding.NoTable r)) × (e ≡ NoTable r))
 
 -- why the words make no layout
 abbrev pub NotEdited : ℕ → ℕ → Option Layout → Words → CommitError → Type 0

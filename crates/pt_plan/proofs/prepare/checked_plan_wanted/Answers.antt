@@ -17,8 +17,8 @@ plan_known-requires g c = (
   (
     c.requires.size,
     (
-      λ tells. rw (c.in_ok-known.ensures.same.same tells) (c.in_ok-known.ensures.known tells),
-      λ tells. rw (c.in_ok-known.ensures.same.same tells) (c.in_ok-known.ensures.reason tells),
+      c.in_ok-survey.ensures.tells,
+      λ tells. rw (c.in_ok-survey.ensures.same.same tells) (c.in_ok-survey.ensures.ok tells),
     ),
   ),
 )
@@ -29,8 +29,7 @@ checked-requires g c = (
   (
     c.requires.size,
     λ tells.
-        rw (c.in_ok-plan.ensures.same.same tells, c.in_ok-known.ensures.same.same tells, c.recovered.ensures)
-        (record { denotes = (c.in_ok-known.ensures.known tells).old; reads = (c.in_ok-known.ensures.known tells).trace }),
+        rw (c.in_ok-plan.ensures.same.same tells, c.in_ok-survey.ensures.same.same tells) (c.in_ok-survey.ensures.ok tells),
   ),
 )
 
@@ -38,7 +37,7 @@ pub returns-clause-same : goal.returns-clause-same
 returns-clause-same g c =
     let same : OnlyReads g.D.Disk c.args.disk.now c.checked.new.disk.disk.now =
     rw c.new-cache.ensures.disk at
-    (g.met.D.Disk.reads_on _ _ _ c.in_ok-known.ensures.same.through
+    (g.met.D.Disk.reads_on _ _ _ c.in_ok-survey.ensures.same.through
     (g.met.D.Disk.reads_on _ _ _ c.in_ok-plan.ensures.same.through c.in_ok-checked.ensures.same.through)) in
     search (rules, same)
 
@@ -46,43 +45,43 @@ pub returns-clause-blames : goal.returns-clause-blames
 returns-clause-blames g c =
     let blames : g.D.Disk.faults c.checked.new.disk.disk.now ≡ g.D.Disk.faults c.args.disk.now =
     rw c.new-cache.ensures.disk at
-    (c.in_ok-checked.ensures.blames ∙ c.in_ok-plan.ensures.blames ∙ c.in_ok-known.ensures.blames) in
+    (c.in_ok-checked.ensures.blames ∙ c.in_ok-plan.ensures.blames ∙ c.in_ok-survey.ensures.blames) in
     search (rules, blames)
 
 pub returns-clause-in_range : goal.returns-clause-in_range
 returns-clause-in_range g c =
-    rw (c.in_ok-known.ensures.same.same_count, c.new-cache.ensures.disk) at c.in_ok-plan.ensures.in_range
+    rw (c.in_ok-survey.ensures.same.same_count, c.new-cache.ensures.disk) at c.in_ok-plan.ensures.in_range
 
 pub returns-clause-ready : goal.returns-clause-ready
 returns-clause-ready g c = λ tells.
     ready_of c.args.primary g.row.B (g.D.Disk.count c.args.disk.now) c.args.wanted.now (g.D.Disk.told c.args.disk.now).seen
     (phases_of c.in_ok-plan.plan) c.requires.size
-    (rw (c.in_ok-known.ensures.same.same_count, c.in_ok-known.ensures.same.same tells, c.new-cache.ensures.disk)
+    (rw (c.in_ok-survey.ensures.same.same_count, c.in_ok-survey.ensures.same.same tells, c.new-cache.ensures.disk)
     at (c.in_ok-plan.ensures.planned tells))
-    (rw (c.in_ok-plan.ensures.same.same tells, c.in_ok-known.ensures.same.same tells, c.new-cache.ensures.disk)
+    (rw (c.in_ok-plan.ensures.same.same tells, c.in_ok-survey.ensures.same.same tells, c.new-cache.ensures.disk)
     at (c.in_ok-checked.ensures.ok tells))
 
-pub returns-in_err-known-clause-place : goal.returns-in_err-known-clause-place
-returns-in_err-known-clause-place g c = λ tells.
-    let p = err_from_is_err_and c.from_residual-in_err-known.result c.from_residual-in_err-known.ensures.1 in
+pub returns-in_err-survey-clause-place : goal.returns-in_err-survey-clause-place
+returns-in_err-survey-clause-place g c = λ tells.
+    let p = err_from_is_err_and c.from_residual-in_err-survey.result c.from_residual-in_err-survey.ensures.1 in
     let d = (g.D.Disk.told c.args.disk.now).seen in
     let n = g.D.Disk.count c.args.disk.now in
     rw (p.1, p.2) (commit_failed (VerdictReads g.row.B d)
-    (WriteOfReads c.args.primary g.row.B n c.args.wanted.now d) c.in_err-known.field-0.0
+    (WriteOfReads c.args.primary g.row.B n c.args.wanted.now d) c.in_err-survey.field-0.0
     (λ s reads. planned_of c.args.primary g.row.B n c.args.wanted.now d s (verdict_of c.args.primary g.row.B n c.args.wanted.now d s reads))
-    (rw c.new-cache.ensures.disk at (c.in_err-known.ensures.place tells)))
+    (rw c.new-cache.ensures.disk at (c.in_err-survey.ensures.place tells)))
 
-pub returns-in_err-known-clause-refused : goal.returns-in_err-known-clause-refused
-returns-in_err-known-clause-refused g c = λ tells.
-    let p = err_from_is_err_and c.from_residual-in_err-known.result c.from_residual-in_err-known.ensures.1 in
+pub returns-in_err-survey-clause-refused : goal.returns-in_err-survey-clause-refused
+returns-in_err-survey-clause-refused g c = λ tells.
+    let p = err_from_is_err_and c.from_residual-in_err-survey.result c.from_residual-in_err-survey.ensures.1 in
     rw (p.1, p.2) (failed_of c.args.primary g.row.B (g.D.Disk.count c.args.disk.now) c.args.wanted.now (g.D.Disk.told c.args.disk.now).seen
-    c.in_err-known.field-0.0)
+    c.in_err-survey.field-0.0)
 
 pub returns-in_err-plan-clause-same : goal.returns-in_err-plan-clause-same
 returns-in_err-plan-clause-same g c =
     let same : OnlyReads g.D.Disk c.args.disk.now c.plan_known.new.disk.disk.now =
     rw c.new-cache.ensures.disk at
-    (g.met.D.Disk.reads_on _ _ _ c.in_ok-known.ensures.same.through c.in_err-plan.ensures.same.through) in
+    (g.met.D.Disk.reads_on _ _ _ c.in_ok-survey.ensures.same.through c.in_err-plan.ensures.same.through) in
     search (rules, same)
 
 pub returns-in_err-plan-clause-blames : goal.returns-in_err-plan-clause-blames
@@ -90,7 +89,7 @@ returns-in_err-plan-clause-blames g c =
     let p = err_from_is_err_and c.from_residual-in_err-plan.result c.from_residual-in_err-plan.ensures.1 in
     let blames : Blames commit_fault_in c.from_residual-in_err-plan.result (g.D.Disk.faults c.args.disk.now)
     (g.D.Disk.faults c.plan_known.new.disk.disk.now) =
-    rw (p.1, p.2) (rw (c.in_ok-known.ensures.blames, c.new-cache.ensures.disk) at c.in_err-plan.ensures.blames) in
+    rw (p.1, p.2) (rw (c.in_ok-survey.ensures.blames, c.new-cache.ensures.disk) at c.in_err-plan.ensures.blames) in
     search (rules, blames)
 
 pub returns-in_err-plan-clause-place : goal.returns-in_err-plan-clause-place
@@ -101,20 +100,20 @@ returns-in_err-plan-clause-place g c = λ tells.
     rw (p.1, p.2) (commit_wider (PlanOfReads c.args.primary g.row.B n c.args.wanted.now d)
     (WriteOfReads c.args.primary g.row.B n c.args.wanted.now d)
     c.in_err-plan.field-0.0 (planned_of c.args.primary g.row.B n c.args.wanted.now d)
-    (rw (c.in_ok-known.ensures.same.same_count, c.in_ok-known.ensures.same.same tells, c.new-cache.ensures.disk)
+    (rw (c.in_ok-survey.ensures.same.same_count, c.in_ok-survey.ensures.same.same tells, c.new-cache.ensures.disk)
     at (c.in_err-plan.ensures.place tells)))
 
 pub returns-in_err-plan-clause-refused : goal.returns-in_err-plan-clause-refused
 returns-in_err-plan-clause-refused g c = λ tells.
     let p = err_from_is_err_and c.from_residual-in_err-plan.result c.from_residual-in_err-plan.ensures.1 in
-    rw (p.1, p.2) (rw (c.in_ok-known.ensures.same.same_count, c.in_ok-known.ensures.same.same tells, c.new-cache.ensures.disk)
+    rw (p.1, p.2) (rw (c.in_ok-survey.ensures.same.same_count, c.in_ok-survey.ensures.same.same tells, c.new-cache.ensures.disk)
     at (c.in_err-plan.ensures.refused tells))
 
 pub returns-in_err-checked-clause-same : goal.returns-in_err-checked-clause-same
 returns-in_err-checked-clause-same g c =
     let same : OnlyReads g.D.Disk c.args.disk.now c.checked.new.disk.disk.now =
     rw c.new-cache.ensures.disk at
-    (g.met.D.Disk.reads_on _ _ _ c.in_ok-known.ensures.same.through
+    (g.met.D.Disk.reads_on _ _ _ c.in_ok-survey.ensures.same.through
     (g.met.D.Disk.reads_on _ _ _ c.in_ok-plan.ensures.same.through c.in_err-checked.ensures.same.through)) in
     search (rules, same)
 
@@ -123,7 +122,7 @@ returns-in_err-checked-clause-blames g c =
     let p = err_from_is_err_and c.from_residual-in_err-checked.result c.from_residual-in_err-checked.ensures.1 in
     let blames : Blames commit_fault_in c.from_residual-in_err-checked.result (g.D.Disk.faults c.args.disk.now)
     (g.D.Disk.faults c.checked.new.disk.disk.now) =
-    rw (p.1, p.2) (rw (c.in_ok-plan.ensures.blames, c.in_ok-known.ensures.blames, c.new-cache.ensures.disk)
+    rw (p.1, p.2) (rw (c.in_ok-plan.ensures.blames, c.in_ok-survey.ensures.blames, c.new-cache.ensures.disk)
     at c.in_err-checked.ensures.blames) in
     search (rules, blames)
 
@@ -136,9 +135,9 @@ returns-in_err-checked-clause-place g c = λ tells.
     (WriteOfReads c.args.primary g.row.B n c.args.wanted.now d)
     c.in_err-checked.field-0.0
     (checked_of c.args.primary g.row.B n c.args.wanted.now d (phases_of c.in_ok-plan.plan)
-    (rw (c.in_ok-known.ensures.same.same_count, c.in_ok-known.ensures.same.same tells, c.new-cache.ensures.disk)
+    (rw (c.in_ok-survey.ensures.same.same_count, c.in_ok-survey.ensures.same.same tells, c.new-cache.ensures.disk)
     at (c.in_ok-plan.ensures.planned tells)))
-    (rw (c.in_ok-plan.ensures.same.same tells, c.in_ok-known.ensures.same.same tells, c.new-cache.ensures.disk)
+    (rw (c.in_ok-plan.ensures.same.same tells, c.in_ok-survey.ensures.same.same tells, c.new-cache.ensures.disk)
     at (c.in_err-checked.ensures.place tells)))
 
 pub returns-in_err-checked-clause-refused : goal.returns-in_err-checked-clause-refused
@@ -147,8 +146,8 @@ returns-in_err-checked-clause-refused g c = λ tells.
     rw (p.1, p.2) (not_safe_of c.args.primary g.row.B (g.D.Disk.count c.args.disk.now) c.args.wanted.now
     (g.D.Disk.told c.args.disk.now).seen
     (phases_of c.in_ok-plan.plan) c.requires.size
-    (rw (c.in_ok-known.ensures.same.same_count, c.in_ok-known.ensures.same.same tells, c.new-cache.ensures.disk)
+    (rw (c.in_ok-survey.ensures.same.same_count, c.in_ok-survey.ensures.same.same tells, c.new-cache.ensures.disk)
     at (c.in_ok-plan.ensures.planned tells))
     c.in_err-checked.field-0.0
-    (rw (c.in_ok-plan.ensures.same.same tells, c.in_ok-known.ensures.same.same tells, c.new-cache.ensures.disk)
+    (rw (c.in_ok-plan.ensures.same.same tells, c.in_ok-survey.ensures.same.same tells, c.new-cache.ensures.disk)
     at (c.in_err-checked.ensures.err tells)))

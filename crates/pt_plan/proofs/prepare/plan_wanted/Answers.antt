@@ -16,8 +16,8 @@ plan_known-requires g c = (
   (
     c.requires.size,
     (
-      λ tells. rw (c.in_ok-known.ensures.same.same tells) (c.in_ok-known.ensures.known tells),
-      λ tells. rw (c.in_ok-known.ensures.same.same tells) (c.in_ok-known.ensures.reason tells),
+      c.in_ok-survey.ensures.tells,
+      λ tells. rw (c.in_ok-survey.ensures.same.same tells) (c.in_ok-survey.ensures.ok tells),
     ),
   ),
 )
@@ -26,7 +26,7 @@ pub returns-clause-same : goal.returns-clause-same
 returns-clause-same g c =
     let same : OnlyReads g.D.Disk c.args.disk.now c.plan_known.new.disk.disk.now =
     rw c.new-cache.ensures.disk at
-    (g.met.D.Disk.reads_on _ _ _ c.in_ok-known.ensures.same.through c.plan_known.ensures.same.through) in
+    (g.met.D.Disk.reads_on _ _ _ c.in_ok-survey.ensures.same.through c.plan_known.ensures.same.through) in
     search (rules, same)
 
 pub returns-clause-blames : goal.returns-clause-blames
@@ -34,39 +34,39 @@ returns-clause-blames g c =
     let blames : Blames commit_fault_in c.plan_known.result (g.D.Disk.faults c.args.disk.now)
     (g.D.Disk.faults c.plan_known.new.disk.disk.now) =
     rw c.new-cache.ensures.disk at
-    (blames_after commit_fault_in c.plan_known.result _ _ _ c.in_ok-known.ensures.blames c.plan_known.ensures.blames) in
+    (blames_after commit_fault_in c.plan_known.result _ _ _ c.in_ok-survey.ensures.blames c.plan_known.ensures.blames) in
     search (rules, blames)
 
 pub returns-clause-in_range : goal.returns-clause-in_range
 returns-clause-in_range g c =
-    rw (c.in_ok-known.ensures.same.same_count, c.new-cache.ensures.disk) at c.plan_known.ensures.in_range
+    rw (c.in_ok-survey.ensures.same.same_count, c.new-cache.ensures.disk) at c.plan_known.ensures.in_range
 
 pub returns-clause-planned : goal.returns-clause-planned
 returns-clause-planned g c = λ tells.
-    rw (c.in_ok-known.ensures.same.same_count, c.in_ok-known.ensures.same.same tells, c.new-cache.ensures.disk)
+    rw (c.in_ok-survey.ensures.same.same_count, c.in_ok-survey.ensures.same.same tells, c.new-cache.ensures.disk)
     at (c.plan_known.ensures.planned tells)
 
 pub returns-clause-refused : goal.returns-clause-refused
 returns-clause-refused g c = λ tells.
-    rw (c.in_ok-known.ensures.same.same_count, c.in_ok-known.ensures.same.same tells, c.new-cache.ensures.disk)
+    rw (c.in_ok-survey.ensures.same.same_count, c.in_ok-survey.ensures.same.same tells, c.new-cache.ensures.disk)
     at (c.plan_known.ensures.refused tells)
 
 pub returns-clause-place : goal.returns-clause-place
 returns-clause-place g c = λ tells.
-    rw (c.in_ok-known.ensures.same.same_count, c.in_ok-known.ensures.same.same tells, c.new-cache.ensures.disk)
+    rw (c.in_ok-survey.ensures.same.same_count, c.in_ok-survey.ensures.same.same tells, c.new-cache.ensures.disk)
     at (c.plan_known.ensures.place tells)
 
-pub returns-in_err-known-clause-place : goal.returns-in_err-known-clause-place
-returns-in_err-known-clause-place g c = λ tells.
-    let p = err_from_is_err_and c.from_residual-in_err-known.result c.from_residual-in_err-known.ensures.1 in
+pub returns-in_err-survey-clause-place : goal.returns-in_err-survey-clause-place
+returns-in_err-survey-clause-place g c = λ tells.
+    let p = err_from_is_err_and c.from_residual-in_err-survey.result c.from_residual-in_err-survey.ensures.1 in
     let d = (g.D.Disk.told c.args.disk.now).seen in
     let n = g.D.Disk.count c.args.disk.now in
     rw (p.1, p.2) (commit_failed (VerdictReads g.row.B d)
-    (PlanOfReads c.args.primary g.row.B n c.args.wanted.now d) c.in_err-known.field-0.0
-    (verdict_of c.args.primary g.row.B n c.args.wanted.now d) (rw c.new-cache.ensures.disk at (c.in_err-known.ensures.place tells)))
+    (PlanOfReads c.args.primary g.row.B n c.args.wanted.now d) c.in_err-survey.field-0.0
+    (verdict_of c.args.primary g.row.B n c.args.wanted.now d) (rw c.new-cache.ensures.disk at (c.in_err-survey.ensures.place tells)))
 
-pub returns-in_err-known-clause-refused : goal.returns-in_err-known-clause-refused
-returns-in_err-known-clause-refused g c = λ tells.
-    let p = err_from_is_err_and c.from_residual-in_err-known.result c.from_residual-in_err-known.ensures.1 in
+pub returns-in_err-survey-clause-refused : goal.returns-in_err-survey-clause-refused
+returns-in_err-survey-clause-refused g c = λ tells.
+    let p = err_from_is_err_and c.from_residual-in_err-survey.result c.from_residual-in_err-survey.ensures.1 in
     rw (p.1, p.2) (failed_of c.args.primary g.row.B (g.D.Disk.count c.args.disk.now) c.args.wanted.now (g.D.Disk.told c.args.disk.now).seen
-    c.in_err-known.field-0.0)
+    c.in_err-survey.field-0.0)
