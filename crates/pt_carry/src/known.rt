@@ -8,10 +8,11 @@ ghost use Rattle.pt_plan.specs.Layouts.{fault_in_disk, fault_in_other, LikeHides
 ghost use Rattle.pt_plan.specs.declared.like_error.LikeError.TheVariants.{OtherSize};
 ghost use Rattle.pt_carry.specs.inner.Copying.{IsKnown};
 
+use pt_gpt::LastArray;
 use pt_layout::{Layout, recover};
 use pt_plan::{CommitError, LikeError, Primary, checked_plan_like_by};
-use pt_recover::{Trace, recover_traced};
-use pt_sector::{Disk, Failure, Fault};
+use pt_recover::{Trace, read_layout};
+use pt_sector::Disk;
 use std::alloc::Global;
 
 /// What the disk denotes, or nothing, with the sectors that decide it; and what the other disk denotes.
@@ -55,24 +56,14 @@ pub(crate) fn read_both<const B: usize, D: Disk<B>, E: Disk<B>>(
     }
     checked_plan_like_by(alloc, disk, other, primary)?;
     let new = recover::<B, E>(alloc, other)?;
-    let (answer, trace) = recover_traced::<B, D>(alloc, disk);
-    let error = match answer {
-        Ok(layout) => {
-            return Ok(Known {
-                old: Some(layout),
-                trace,
-                new,
-            });
-        }
-        Err(error) => error,
+    let mut last = LastArray::new(alloc);
+    let (found, trace) = match read_layout::<B, D>(alloc, disk, &None, &mut last) {
+        Ok(read) => read,
+        Err(failure) => return Err(LikeError::Disk(CommitError::from(failure))),
     };
-    match error.failure() {
-        Some(Failure::Device(at)) => Err(LikeError::Disk(CommitError::Device(Fault::Read(at)))),
-        Some(Failure::Memory) => Err(LikeError::Disk(CommitError::Memory)),
-        None => Ok(Known {
-            old: None,
-            trace,
-            new,
-        }),
-    }
+    Ok(Known {
+        old: found.ok(),
+        trace,
+        new,
+    })
 }

@@ -2,7 +2,7 @@
 use Rattle.std.proofs.Common.{◌≡◌, ℕ, Result, Ok, Err, subst, refl}
 use Rattle.pt_drafts.specs.declared.draft.PartDraft.{PartDraft}
 use Rattle.pt_drafts.specs.declared.fault.TextFault.{TextFault}
-use Rattle.pt_edit.specs.declared.space.space.Run.{Run}
+use Rattle.pt_edit.specs.declared.space.Run.{Run}
 use Rattle.pt_set.specs.declared.entries.Known.{Known}
 use Rattle.pt_set.specs.Entries.{State}
 use Rattle.pt_set.specs.Faults.{◌>>=◌}

@@ -11,7 +11,7 @@ use Rattle.pt_gpt.specs.declared.table.Table.{Table}
 use Rattle.pt_members.specs.declared.layout.Labelled.{Labelled}
 use Rattle.pt_edit.specs.Entries.{is_slice}
 use Rattle.pt_edit.specs.SliceLabels.{with_new_label}
-use Rattle.pt_edit.specs.declared.space.space.Run.{Run}
+use Rattle.pt_edit.specs.declared.space.Run.{Run}
 use Rattle.pt_drafts.specs.declared.fault.Key.{Key}
 use Rattle.pt_drafts.specs.declared.fault.Key.TheVariants as key
 use Rattle.pt_drafts.specs.declared.draft.NamedType.{NamedType}

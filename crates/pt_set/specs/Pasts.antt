@@ -8,7 +8,7 @@ use Rattle.pt_mbr.specs.declared.record.Record.{Record}
 use Rattle.pt_members.specs.declared.layout.Labelled.{Labelled}
 use Rattle.pt_edit.specs.Chains.{farthest}
 use Rattle.pt_edit.specs.Records.{is_slice}
-use Rattle.pt_edit.specs.declared.space.space.Run.{Run}
+use Rattle.pt_edit.specs.declared.space.Run.{Run}
 use Rattle.pt_set.specs.declared.past.Logical.{Logical}
 use Rattle.pt_set.specs.declared.past.Was.{Was}
 use Rattle.pt_set.specs.Entries.{run_length}

@@ -5,7 +5,7 @@ use Rattle.std.specs.Option.{option_map}
 use Rattle.pt_words.specs.declared.error.Refusal.{Refusal}
 use Rattle.pt_words.specs.declared.word.End.{End}
 use Rattle.pt_words.specs.declared.word.End.TheVariants.{Block, Length, At}
-use Rattle.pt_edit.specs.declared.space.space.Run.{Run}
+use Rattle.pt_edit.specs.declared.space.Run.{Run}
 use Rattle.pt_edit.specs.Space.{Area, Placed, NotPlaced}
 use Rattle.pt_drafts.specs.declared.draft.Extent.{Extent}
 use Rattle.pt_drafts.specs.declared.draft.Extent.TheVariants.{Sectors, Bytes, Last}

@@ -10,7 +10,7 @@ use Rattle.pt_members.specs.Members.{label_of}
 use Rattle.pt_members.specs.declared.layout.Labelled.{Labelled}
 use Rattle.pt_edit.specs.Records.{is_slice}
 use Rattle.pt_edit.specs.Space.{Area}
-use Rattle.pt_edit.specs.declared.space.space.Run.{Run}
+use Rattle.pt_edit.specs.declared.space.Run.{Run}
 use Rattle.pt_drafts.specs.declared.draft.Extent.{Extent}
 use Rattle.pt_drafts.specs.declared.draft.Extent.TheVariants.{Sectors, Bytes, Last}
 use Rattle.pt_drafts.specs.declared.draft.NamedType.{NamedType}

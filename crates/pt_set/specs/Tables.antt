@@ -7,7 +7,7 @@ use Rattle.pt_members.specs.Members.{label_of}
 use Rattle.pt_members.specs.declared.layout.Body.TheVariants.{Gpt}
 use Rattle.pt_members.specs.declared.layout.Labelled.{Labelled}
 use Rattle.pt_members.specs.declared.layout.Layout.{Layout}
-use Rattle.pt_edit.specs.declared.space.space.Run.{Run}
+use Rattle.pt_edit.specs.declared.space.Run.{Run}
 use Rattle.pt_drafts.specs.declared.draft.Draft.{Draft}
 use Rattle.pt_drafts.specs.declared.fault.Key.TheVariants as key
 use Rattle.pt_drafts.specs.declared.draft.PartDraft.{PartDraft}

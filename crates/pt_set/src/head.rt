@@ -8,7 +8,7 @@ ghost use Rattle.pt_set.specs.Heads.{head_for as head_spec, last_for as last_spe
 
 use crate::faults::of;
 use pt_drafts::{DiskId, Draft, Key, TextFault};
-use pt_gpt::{Table, first_usable};
+use pt_gpt::{MOST_ENTRIES, Table, first_usable};
 use pt_guid::Guid;
 
 /// A GUID, and how many fresh ones are taken then.
@@ -58,8 +58,8 @@ fn count_for(old: Option<&Table>, entries: Option<u64>) -> Result<usize, TextFau
     ensures value { result ≡ count_spec (option_map (λ t. t.now) old.entry) entries }
     ensures few { IfOk result (λ count. count ≤ 128) }
 {
-    let count = entries.or(entry_count(old)).unwrap_or(128);
-    if count == 0 || count > 128 {
+    let count = entries.or(entry_count(old)).unwrap_or(MOST_ENTRIES as u64);
+    if count == 0 || count > MOST_ENTRIES as u64 {
         return Err(of(Key::Entries));
     }
     Ok(count as usize)

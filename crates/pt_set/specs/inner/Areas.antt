@@ -1,6 +1,6 @@
 -- What functions have of an area.
 use Rattle.std.specs.Prelude.{ℕ, Bool, List, [], Option, Some, None, if◌then◌else◌}
-use Rattle.pt_edit.specs.declared.space.space.Run.{Run}
+use Rattle.pt_edit.specs.declared.space.Run.{Run}
 use Rattle.pt_edit.specs.Space.{Area}
 use Rattle.pt_set.specs.declared.places.Bounds.{Bounds}
 
