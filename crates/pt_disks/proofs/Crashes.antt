@@ -7,7 +7,7 @@ use Rattle.pt_disks.specs.Memory.{reading, pending_writes}
 use Rattle.pt_disks.proofs.Reading.{reading-push}
 use Rattle.pt_disks.specs.Stops.{crash_told}
 use Rattle.pt_disks.proofs.CrashLemmas.{moments_on}
-use Rattle.pt_disks.specs.declared.in_memory.pending.Pending.{Pending}
+use Rattle.pt_disks.specs.declared.in_memory.cache.Pending.{Pending}
 use Rattle.pt_disks.specs.declared.in_memory.cache.WriteCache.{WriteCache}
 
 module _ {b : _} (old : WriteCache b) (past later : List (WriteCache b)) (is : later ≡ past ++ old ∷ []) where

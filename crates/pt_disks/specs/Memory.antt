@@ -1,7 +1,7 @@
 -- Disks in memory, and what is pending on one.
 use Rattle.std.specs.Prelude.{List, [], ◌∷◌, map, if◌then◌else◌, slice_set, ℕ, Vec, replicate}
 use Rattle.pt_sector.specs.Sectors.{Sectors, Writes}
-use Rattle.pt_disks.specs.declared.in_memory.pending.Pending.{Pending}
+use Rattle.pt_disks.specs.declared.in_memory.cache.Pending.{Pending}
 use Rattle.std.specs.declared.alloc.Global.{Global}
 use Rattle.pt_sector.specs.Device.{Told, Moment, told_of}
 

@@ -1,6 +1,6 @@
 -- What a read gives while writes are pending.
 use Rattle.std.proofs.Common.{ℕ, List, [], ◌∷◌, cond, ◌&&◌, ◌==◌}
-use Rattle.pt_disks.specs.declared.in_memory.pending.Pending.{Pending}
+use Rattle.pt_disks.specs.declared.in_memory.cache.Pending.{Pending}
 
 -- sector k, from what it held before these writes
 abbrev pub read_at : {b : _} → List (Pending b) → ℕ → List ℕ → List ℕ

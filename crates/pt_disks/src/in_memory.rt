@@ -4,7 +4,6 @@
 mod cache;
 mod crash;
 mod memory;
-mod pending;
 mod stop;
 
 pub use crash::CrashDisk;

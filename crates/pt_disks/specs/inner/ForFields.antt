@@ -8,7 +8,7 @@ use Rattle.std.proofs.lemmas.Bool.Decides.{nat_tests}
 use Rattle.std.proofs.lemmas.Grind.{common_steps}
 use Rattle.pt_sector.specs.Sectors.{Sectors, sector, Stopped, Puts}
 use Rattle.pt_disks.specs.Memory.{reading, pending_writes}
-use Rattle.pt_disks.specs.declared.in_memory.pending.Pending.{Pending}
+use Rattle.pt_disks.specs.declared.in_memory.cache.Pending.{Pending}
 use Rattle.pt_disks.specs.Reading.{read_at}
 
 pub length-sectors_of : (b n : ℕ) (bytes : List ℕ) → length (sectors_of b n bytes) ≡ n

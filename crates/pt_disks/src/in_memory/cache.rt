@@ -3,9 +3,17 @@ ghost use Rattle.std.specs.Prelude.{◌↔◌};
 ghost use Rattle.pt_sector.specs.Sectors.{sector, IsSectorSize};
 ghost use Rattle.pt_disks.specs.Memory.{reading};
 
-use crate::in_memory::pending::Pending;
 use pt_sector::Lba;
 use std::alloc::{AllocError, Global};
+
+/// A write that is not durable yet.
+#[derive(Clone, Copy)]
+pub(crate) struct Pending<const B: usize> {
+    pub(crate) lba: Lba,
+    pub(crate) bytes: [u8; B],
+    /// Whether a read gives it.
+    pub(crate) reads: bool,
+}
 
 /// Durable sectors, and the writes that are pending over them, in order, in room for a fixed number.
 #[derive(Drop)]

@@ -10,9 +10,8 @@ ghost use Rattle.pt_disks.specs.inner.ForFields.{length-reading, stopped_reading
 ghost use Rattle.pt_disks.specs.Stops.{IsPicked, crash_told, content, sector_count, faults_of, pending_room, IsFull, fails_in};
 ghost use Rattle.pt_disks.specs.Stops.{reads_failed, CallPasses, SameContent};
 
-use crate::in_memory::cache::WriteCache;
+use crate::in_memory::cache::{Pending, WriteCache};
 use crate::in_memory::memory::{MemDisk, zeroed};
-use crate::in_memory::pending::Pending;
 use crate::in_memory::stop::pick_all;
 use pt_sector::{Disk, Fault, Lba, Moments};
 use std::alloc::{AllocError, Global};

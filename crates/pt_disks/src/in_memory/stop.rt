@@ -3,7 +3,7 @@ ghost use Rattle.pt_disks.specs.Memory.{pending_writes};
 ghost use Rattle.pt_disks.specs.Stops.{values, is_pending, chosen};
 ghost use Rattle.pt_disks.specs.inner.Stops.{picked};
 
-use crate::in_memory::pending::Pending;
+use crate::in_memory::cache::Pending;
 
 /// Leaves of each sector what was chosen.
 pub(crate) fn pick_all<const B: usize>(
