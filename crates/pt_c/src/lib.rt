@@ -21,9 +21,9 @@ ghost use Rattle.pt_replay.specs.Tables.{TextFor, FreeFor, SetFor};
 
 use pt_guid::{Guid, code_of_type};
 use pt_replay::{
-    Answer, FreeRow, GuidBytes, GuidText, MemberRow, Reply, TableRow, View, WriteRow, adopted,
-    beyond, checked, free_listed, located, members, mended, planned, set_planned, table_written,
-    verified, wanted,
+    Answer, FreeRow, GuidBytes, GuidText, MemberRow, Reply, TableRow, View, WriteRow,
+    adopt_planned, beyond, checked, free_listed, located, members, mended, planned, set_planned,
+    table_written, verified, wanted,
 };
 use pt_sector::Moments;
 use std::alloc::Global;
@@ -212,12 +212,24 @@ pub extern "C" fn ptab_adopt_plan(
         (buffers writes.old bytes.old) (buffers writes.new bytes.new))) result reply.new }
 {
     match view.sector_size {
-        512 => adopted::<512>(alloc, view, other, writes, bytes, Moments::any(), beyond()).give(
-            reply,
-        ),
-        4096 => adopted::<4096>(alloc, view, other, writes, bytes, Moments::any(), beyond()).give(
-            reply,
-        ),
+        512 => adopt_planned::<512>(
+            alloc,
+            view,
+            other,
+            writes,
+            bytes,
+            Moments::any(),
+            beyond(),
+        ).give(reply),
+        4096 => adopt_planned::<4096>(
+            alloc,
+            view,
+            other,
+            writes,
+            bytes,
+            Moments::any(),
+            beyond(),
+        ).give(reply),
         _ => Answer::bad_argument(1).give(reply),
     }
 }

@@ -9,7 +9,6 @@ use Rattle.std.proofs.lemmas.Str.{IsUtf8-drop, IsCharBoundary-after_ascii}
 use Rattle.pt_words.specs.declared.word.Edit.{Edit}
 use Rattle.pt_words.specs.Words.{fields, IsWord, IsWordFault}
 use Rattle.pt_words.specs.declared.error.EditError.{EditError}
-use Rattle.pt_words.proofs.WordLaws.{fault_is_no_word_lem}
 use Rattle.pt_replay.specs.Replies.{the_words, bad_argument, bad_word}
 use Rattle.pt_replay.specs.Given.{AreWords, AreEdits, HasNoZero}
 use Rattle.pt_replay.specs.inner.Wanted.{NoWords}
@@ -105,7 +104,7 @@ unfolding AreWords
 no_word_in rest word after [] f cut clean fault are = not_empty word after (sym are ∙ cut)
 no_word_in rest word after (e ∷ es) f cut clean fault are =
     let same = (one_cut word are.0 after are.1 clean are.3 (sym cut ∙ are.2)).0 in
-    fault_is_no_word_lem (fields word) e f (subst (λ (t : List ℕ). IsWord (fields t) e) (sym same) are.4) fault
+    let is = subst (λ (t : List ℕ). IsWord (fields t) e) (sym same) are.4 in absurd cc
 
 -- where one of them is no word, the bytes are no edits, and it is reported by its number
 pub no_word : (bytes rest word after : List ℕ) (es : List Edit) (f : EditError) (r : Reply) → IsUtf8 bytes → IsReadTo bytes rest es

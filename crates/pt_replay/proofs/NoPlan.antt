@@ -13,7 +13,7 @@ use Rattle.pt_replay.specs.inner.Given.{IsMisplaced, Took}
 use Rattle.pt_replay.specs.inner.Wanted.{NoRows}
 use Rattle.pt_replay.specs.declared.answers.Reply.{Reply}
 use Rattle.pt_replay.specs.declared.rows.WriteRow.{WriteRow}
-use Rattle.pt_replay.specs.declared.taking.Partial.{Partial}
+use Rattle.pt_replay.specs.declared.plan_rows.Partial.{Partial}
 
 -- bytes of n whole groups
 pub groups_are : (b len n : ℕ) → 0 < b → len ≡ n * b → (len % b ≡ 0) × (len / b ≡ n)

@@ -12,7 +12,7 @@ use Rattle.pt_replay.specs.Given.{rows_in, bytes_in, rows_from, bytes_of, sector
 use Rattle.pt_replay.specs.inner.Given.{AreRows, phases_read, IsNumbered, Took}
 use Rattle.pt_replay.proofs.ViewLemmas.{AreRead, IsGrowing}
 use Rattle.pt_replay.specs.declared.rows.WriteRow.{WriteRow}
-use Rattle.pt_replay.specs.declared.taking.Partial.{Partial}
+use Rattle.pt_replay.specs.declared.plan_rows.Partial.{Partial}
 
 pub none_listed : (rows : List WriteRow) (bytes : List ℕ) → rows ≡ [] → bytes ≡ [] → AreRows [] rows bytes
 unfolding rows_from bytes_of

@@ -2,7 +2,7 @@
 use Rattle.std.specs.Prelude.{◌≡◌, ◌≤◌, ◌⊎◌, List, [], ◌∷◌, ◌++◌, length, ℕ, Option, Some, None, slice_get}
 use Rattle.pt_sector.specs.Sectors.{Sectors}
 use Rattle.pt_replay.specs.declared.rows.WriteRow.{WriteRow}
-use Rattle.pt_replay.specs.declared.taking.Partial.{Partial}
+use Rattle.pt_replay.specs.declared.plan_rows.Partial.{Partial}
 use Rattle.pt_apply.specs.inner.Plans.{phases_in}
 use Rattle.pt_replay.specs.Given.{rows_from, sectors_of, AreFull}
 use Rattle.pt_replay.specs.inner.Given.{phases_read, IsNumbered}

@@ -8,10 +8,10 @@ ghost use Rattle.pt_replay.specs.Claims.{Checked, CheckedFor};
 ghost use Rattle.pt_replay.specs.inner.Replies.{check_answer, accepting};
 
 use crate::answers::{Answer, Status};
+use crate::plan_rows::plan_of_rows;
 use crate::refusals::reason;
 use crate::replay::ReplayDisk;
 use crate::rows::WriteRow;
-use crate::taking::take_plan;
 use crate::view::View;
 use pt_apply::Plan;
 use pt_check::{Answer as Verdict, CheckError, check};
@@ -68,7 +68,7 @@ pub fn checked<const B: usize>(
     requires size { IsSectorSize B }
     ensures says { CheckedFor B view.now (disk_of B view.now elsewhere.entry.items) writes.now bytes.now result.status result.reply }
 {
-    match take_plan::<B>(alloc, writes, bytes) {
+    match plan_of_rows::<B>(alloc, writes, bytes) {
         Ok(plan) => plan_checked(alloc, view, &plan, elsewhere),
         Err(answer) => answer,
     }

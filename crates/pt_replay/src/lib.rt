@@ -9,27 +9,27 @@
 //! that the answer holds of the disk with just these sectors, whichever they are.
 #![tactic(auto)]
 
-mod adopting;
+mod adopt;
 mod answers;
 mod asking;
+mod buffers;
 mod checking;
-mod giving;
 mod health;
 mod index;
 mod listing;
 mod places;
+mod plan_rows;
 mod planning;
 mod recovered;
 mod refusals;
 mod replay;
 mod rows;
-mod setting;
+mod set;
 mod tables;
-mod taking;
 mod view;
 mod wanting;
 
-pub use adopting::{adopted, beyond};
+pub use adopt::{adopt_planned, beyond};
 pub use answers::{Answer, Reply, Status};
 pub use checking::checked;
 pub use health::verified;
@@ -37,7 +37,7 @@ pub use listing::members;
 pub use places::located;
 pub use planning::{mended, planned};
 pub use rows::{FreeRow, GuidBytes, GuidText, MemberRow, TableRow, WriteRow};
-pub use setting::set_planned;
+pub use set::set_planned;
 pub use tables::{free_listed, table_written};
 pub use view::View;
 pub use wanting::wanted;

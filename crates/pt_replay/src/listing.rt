@@ -7,7 +7,7 @@ ghost use Rattle.pt_replay.specs.Listed.{row_of_table, kind_code, narrowed, row_
 ghost use Rattle.pt_replay.specs.Claims.{MembersFor};
 
 use crate::answers::{Answer, Status, letter_of};
-use crate::giving::{counted, put};
+use crate::buffers::{counted, put};
 use crate::recovered::recovered;
 use crate::rows::{MemberRow, TableRow};
 use crate::view::View;

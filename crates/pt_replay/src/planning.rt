@@ -11,7 +11,7 @@ ghost use Rattle.pt_replay.specs.Claims.{by_table, NoPlan, Planned, PlannedFor, 
 
 use crate::answers::Answer;
 use crate::asking::{edits_of, guids_of};
-use crate::giving::give_plan;
+use crate::buffers::put_plan;
 use crate::refusals::{refused, unmended};
 use crate::replay::ReplayDisk;
 use crate::rows::WriteRow;
@@ -65,7 +65,7 @@ fn plan_given<const B: usize>(
         (buffers writes.old bytes.old) (buffers writes.new bytes.new)) result.status result.reply }
 {
     match plan_words::<B>(alloc, view, edits, guids, elsewhere) {
-        Ok(plan) => give_plan(alloc, &plan, writes, bytes),
+        Ok(plan) => put_plan(alloc, &plan, writes, bytes),
         Err(answer) => answer,
     }
 }
@@ -138,7 +138,7 @@ pub fn mended<const B: usize>(
         (buffers writes.old bytes.old) (buffers writes.new bytes.new) result.status result.reply }
 {
     match plan_repair::<B>(alloc, view, elsewhere) {
-        Ok(plan) => give_plan(alloc, &plan, writes, bytes),
+        Ok(plan) => put_plan(alloc, &plan, writes, bytes),
         Err(answer) => answer,
     }
 }

@@ -6,7 +6,7 @@ ghost use Rattle.pt_replay.specs.Wanted.{disk_of};
 ghost use Rattle.pt_replay.specs.Tables.{TextFor, FreeFor, AreFreeRows, free_row, inside_number};
 
 use crate::answers::{Answer, Status};
-use crate::giving::give_list;
+use crate::buffers::put_list;
 use crate::recovered::recovered;
 use crate::rows::FreeRow;
 use crate::view::View;
@@ -38,7 +38,7 @@ pub fn table_written<const B: usize>(
         Err(answer) => return answer,
     };
     match table_text::<B>(alloc, device, &layout) {
-        Ok(table) => give_list(table.as_bytes(), text),
+        Ok(table) => put_list(table.as_bytes(), text),
         Err(_) => Answer::of(Status::Memory),
     }
 }
@@ -91,7 +91,7 @@ pub fn free_listed<const B: usize>(
         Err(answer) => return answer,
     };
     match free_rows::<B>(alloc, &layout) {
-        Ok(list) => give_list(list.as_slice(), rows),
+        Ok(list) => put_list(list.as_slice(), rows),
         Err(_) => Answer::of(Status::Memory),
     }
 }

@@ -9,7 +9,7 @@ ghost use Rattle.pt_replay.specs.inner.Wanted.{GivesList, TakesUp, AreUnknown, I
 ghost use Rattle.pt_replay.specs.declared.answers.Status.TheVariants as status;
 
 use crate::answers::{Answer, Status};
-use crate::giving::{counted, put};
+use crate::buffers::{counted, put};
 use crate::replay::ReplayDisk;
 use crate::view::View;
 use pt_layout::{Body, NoTable, Slice, Trace, label_places};
@@ -117,7 +117,7 @@ fn wanted_of<const B: usize>(
 }
 
 // Puts sectors into the caller's buffer, or says how much room they take.
-fn give_sectors(list: &[u64], sectors: &mut [u64]) -> Answer
+fn put_sectors(list: &[u64], sectors: &mut [u64]) -> Answer
     ensures gives { GivesList list.now sectors.old sectors.new result.status result.reply }
 {
     if list.is_empty() {
@@ -146,7 +146,7 @@ pub fn wanted<const B: usize>(
         return Answer::bad_argument(2);
     };
     match wanted_of(alloc, &mut disk) {
-        Ok(list) => give_sectors(list.as_slice(), sectors),
+        Ok(list) => put_sectors(list.as_slice(), sectors),
         Err(answer) => answer,
     }
 }

@@ -12,12 +12,12 @@ returns-in-512 g c =
     let v = c.args.view.now in
     let o = c.args.other.now in
     let old = buffers c.args.writes.now c.args.bytes.now in
-    let new = buffers c.adopted.new.writes c.adopted.new.bytes in
+    let new = buffers c.adopt_planned.new.writes c.adopt_planned.new.bytes in
     record {
       says = says_of_both (λ (b : ℕ) (d e : Sectors). OfView b v (new ≡ old) (OfOther b o (new ≡ old)
           (OfOtherCount v o (new ≡ old) (Adopted b v o d e old new))))
           (new ≡ old) v o g.disks.disk g.disks.other 512 _ _ _ _ _ _ c.in-512.is (inl refl) c.any.ensures c.beyond.ensures
-          c.give.ensures.code c.give.ensures.reply c.adopted.ensures.says;
+          c.give.ensures.code c.give.ensures.reply c.adopt_planned.ensures.says;
     }
 
 pub returns-in-4096 : goal.returns-in-4096
@@ -25,13 +25,13 @@ returns-in-4096 g c =
     let v = c.args.view.now in
     let o = c.args.other.now in
     let old = buffers c.args.writes.now c.args.bytes.now in
-    let new = buffers c.adopted-in-4096.new.writes c.adopted-in-4096.new.bytes in
+    let new = buffers c.adopt_planned-in-4096.new.writes c.adopt_planned-in-4096.new.bytes in
     record {
       says = says_of_both (λ (b : ℕ) (d e : Sectors). OfView b v (new ≡ old) (OfOther b o (new ≡ old)
           (OfOtherCount v o (new ≡ old) (Adopted b v o d e old new))))
           (new ≡ old) v o g.disks.disk g.disks.other 4096 _ _ _ _ _ _ c.in-4096.is (inr refl) c.any-in-4096.ensures
           c.beyond-in-4096.ensures
-          c.give-in-4096.ensures.code c.give-in-4096.ensures.reply c.adopted-in-4096.ensures.says;
+          c.give-in-4096.ensures.code c.give-in-4096.ensures.reply c.adopt_planned-in-4096.ensures.says;
     }
 
 pub returns-in_default : goal.returns-in_default

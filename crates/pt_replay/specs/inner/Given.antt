@@ -9,7 +9,7 @@ use Rattle.pt_replay.specs.declared.answers.Status.TheVariants.{Done, No, Usage,
 use Rattle.pt_replay.specs.declared.answers.Reply.{Reply}
 use Rattle.pt_replay.specs.Replies.{nothing}
 use Rattle.pt_replay.specs.declared.rows.WriteRow.{WriteRow}
-use Rattle.pt_replay.specs.declared.taking.Partial.{Partial}
+use Rattle.pt_replay.specs.declared.plan_rows.Partial.{Partial}
 use Rattle.pt_apply.specs.Plans.{writes_of}
 use Rattle.pt_apply.specs.inner.Plans.{phases_in}
 use Rattle.pt_replay.specs.Given.{rows_from, bytes_of, sectors_of, AreFull, Buffers, Stands, HasNoPlace}

@@ -8,8 +8,8 @@ use Rattle.pt_replay.proofs.planning.mended.Goals as goal
 pub returns-in-Ok : goal.returns-in-Ok
 returns-in-Ok g c = record {
   says = gives_mending g.row.B c.args.view.now (disk_of g.row.B c.args.view.now c.args.elsewhere.items) (phases_of c.in-Ok.plan)
-      (buffers c.args.writes.now c.args.bytes.now) (buffers c.give_plan.new.writes c.give_plan.new.bytes) c.give_plan.result.status
-      c.give_plan.result.reply c.in-Ok.ensures.view c.in-Ok.ensures.ok c.give_plan.ensures.says;
+      (buffers c.args.writes.now c.args.bytes.now) (buffers c.put_plan.new.writes c.put_plan.new.bytes) c.put_plan.result.status
+      c.put_plan.result.reply c.in-Ok.ensures.view c.in-Ok.ensures.ok c.put_plan.ensures.says;
 }
 
 pub returns-in-Err : goal.returns-in-Err

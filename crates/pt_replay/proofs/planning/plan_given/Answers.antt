@@ -12,8 +12,8 @@ returns-in-Ok g c = record {
       inr (
         c.in-Ok.ensures.view,
         gives_plan g.row.B c.args.view.now d (batch_of c.args.edits.now c.args.guids.now) (phases_of c.in-Ok.plan)
-            (buffers c.args.writes.now c.args.bytes.now) (buffers c.give_plan.new.writes c.give_plan.new.bytes) c.give_plan.result.status
-            c.give_plan.result.reply c.in-Ok.ensures.ok c.give_plan.ensures.says,
+            (buffers c.args.writes.now c.args.bytes.now) (buffers c.put_plan.new.writes c.put_plan.new.bytes) c.put_plan.result.status
+            c.put_plan.result.reply c.in-Ok.ensures.ok c.put_plan.ensures.says,
       );
 }
 

@@ -11,7 +11,7 @@ returns-in-Ok g c = record {
         c.in-Some.ensures.is_view,
         gives_wanted g.row.B c.args.view.now d c.in-Ok.list.items _ _ _ _
             (lists_in_view g.row.B c.args.view.now d _ _ _ _ _ c.in-Some.ensures.view c.in-Some.ensures.seen c.in-Ok.ensures.ok)
-            (subst (λ (list : List ℕ). GivesList list c.args.sectors.now c.give_sectors.new.sectors c.give_sectors.result.status
-            c.give_sectors.result.reply) c.as_slice.ensures.value c.give_sectors.ensures.gives),
+            (subst (λ (list : List ℕ). GivesList list c.args.sectors.now c.put_sectors.new.sectors c.put_sectors.result.status
+            c.put_sectors.result.reply) c.as_slice.ensures.value c.put_sectors.ensures.gives),
       );
 }

@@ -1,4 +1,0 @@
-use Rattle.pt_replay.proofs.adopting.beyond.Given as goal
-
-abbrev pub ghost-any : goal.ghost-any
-ghost-any g a = g.supposed

@@ -1,8 +1,0 @@
-use Rattle.std.proofs.Common.{take}
-use Rattle.pt_replay.proofs.ViewLemmas.{AreRead, IsGrowing}
-use Rattle.pt_replay.proofs.NoPlan.{AreInOrder}
-use Rattle.pt_replay.proofs.taking.take_plan.Given as goal
-
-abbrev pub invariant-loop-k : goal.invariant-loop-k
-invariant-loop-k g l =
-    AreRead (take l.k l.writes) (take l.k l.sectors) l.partial × IsGrowing (take l.k l.writes) l.partial × AreInOrder l.writes l.k
