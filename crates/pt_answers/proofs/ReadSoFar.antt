@@ -14,6 +14,9 @@ use Rattle.pt_words.specs.declared.word.Edit.{Edit}
 use Rattle.pt_answers.specs.Images.{Call, Doing, IsPlanAt, ReadsPlan, WithPlan, most_text}
 use Rattle.pt_answers.specs.Wanted.{AreEdits, AreGiven, IsFirstBad, IsWanted}
 use Rattle.pt_answers.specs.declared.failure.Failure.{Failure}
+use Rattle.pt_answers.specs.declared.failure.Failure.TheVariants as failure
+use Rattle.pt_answers.specs.declared.failure.NoText.{NoText}
+use Rattle.pt_answers.specs.declared.failure.NoText.TheVariants.{Unreadable, TooLong, NotUtf8}
 use Rattle.pt_report.specs.declared.reply.Reply.{Reply}
 use Rattle.pt_answers.specs.inner.Answers.{IsNoText}
 use Rattle.pt_answers.specs.inner.Wanted.{IsBadOr, IsNamed, IsUnread}
@@ -117,10 +120,12 @@ of_bytes b None bytes (Err why) is short (inr (inr text)) = inr (inr (text.0, te
 of_bytes b (Some all) bytes plan is short read = subst (λ (t : List ℕ). ReadsPlan b (Some t) plan) (is
     ∙ take_all (most_text + 1) all (let short_all = within all bytes is short in omega (arith, short_all))) read
 
-pub no_text : (b : ℕ) (known : Option (List ℕ)) (bytes : List ℕ) (why : Failure)
-    → IfSome known (λ all. bytes ≡ take (most_text + 1) all) → IsNoText bytes why → ReadsPlan b known (Err why)
-no_text b None bytes why is none = inr (inr (0, none.0, tt))
-no_text b (Some all) bytes why is none = inr (inr (0, none.0, inl (refl, no_whole all bytes is none.1)))
+pub no_text : (b : ℕ) (known : Option (List ℕ)) (bytes : List ℕ) (why : NoText)
+    → IfSome known (λ all. bytes ≡ take (most_text + 1) all) → IsNoText bytes why → ReadsPlan b known (Err (failure.PlanText 0))
+no_text b None bytes why is none = inr (inr (0, refl, tt))
+no_text b (Some all) bytes Unreadable is none = absurd none
+no_text b (Some all) bytes TooLong is long = inr (inr (0, refl, inl (refl, no_whole all bytes is (inl long))))
+no_text b (Some all) bytes NotUtf8 is bad = inr (inr (0, refl, inl (refl, no_whole all bytes is (inr bad.1))))
 
 pub plan_then : {D T : Type 0} (b : ℕ) (remaining : T → Option (List ℕ)) (path : List ℕ) (Next : Plan b → Doing (Call D T))
     (old between new : List (Call D T)) (read : Result (Plan b) Failure) (plan : Plan b) (answer : Result Reply Failure)

@@ -1,7 +1,7 @@
 -- Texts in files, as far as they are read.
 use Rattle.std.proofs.Common.{◌≡◌, ◌∙◌, ◌+◌, ◌≤◌, ℕ, List, ap, inl, inr, subst, sym, take, length, refl, min, arith, Some, None, Ok, Err}
 use Rattle.std.proofs.Common.{string_bytes}
-use Rattle.std.specs.Prelude.{IfErr, IfOk, IfSome, IsUtf8, OnOk, Option, Result, String, Vec}
+use Rattle.std.specs.Prelude.{IfSome, IsUtf8, Option, Result, String, Vec}
 use Rattle.std.specs.declared.alloc.Global.{Global}
 use Rattle.std.proofs.lemmas.List.{length-take, take_all}
 use Rattle.pt_drafts.specs.declared.draft.Draft.{Draft}
@@ -11,7 +11,7 @@ use Rattle.pt_answers.specs.Data.{ReadsRuns}
 use Rattle.pt_answers.specs.Images.{Call, Doing, most_text}
 use Rattle.pt_answers.specs.Sets.{AreRead, ReadsDraft, WithFresh}
 use Rattle.pt_answers.specs.Texts.{IsTextAt, IsUnread, WithText}
-use Rattle.pt_answers.specs.inner.Answers.{IsNoTextOf, ReadsText}
+use Rattle.pt_answers.specs.inner.Answers.{IsNoText, ReadsText}
 use Rattle.pt_answers.specs.declared.failure.Failure.{Failure}
 use Rattle.pt_answers.specs.declared.failure.Failure.TheVariants as failure
 use Rattle.pt_answers.specs.declared.failure.NoText.{NoText}
@@ -29,37 +29,29 @@ whole all bytes is short =
     let len = begins all bytes is in
     is ∙ take_all (most_text + 1) all (omega (arith, len, short))
 
--- what is read of the first bytes of a file is read of the file
-cut_short : (of : TextOf) (all bytes : List ℕ) (why : Failure) → bytes ≡ take (most_text + 1) all → IsNoTextOf of bytes why
-    → ReadsText of (Some all) (Err why)
-cut_short of all bytes why is (inl long) =
-    let len = begins all bytes is in
-    let more = long.1 in
-    subst (λ (f : Failure). ReadsText of (Some all) (Err f)) (sym long.0) (refl, omega (arith, len, more))
-cut_short of all bytes why is (inr bad) = subst (λ (f : Failure). ReadsText of (Some all) (Err f)) (sym bad.0)
-    (refl, subst (λ (t : List ℕ). (length t ≤ most_text) × ¬ IsUtf8 t) (whole all bytes is bad.1) (bad.1, bad.2))
-
-unknown : (of : TextOf) (bytes : List ℕ) (why : Failure) → IsNoTextOf of bytes why → ReadsText of None (Err why)
-unknown of bytes why (inl long) = subst (λ (f : Failure). ReadsText of None (Err f)) (sym long.0) (refl, tt)
-unknown of bytes why (inr bad) = subst (λ (f : Failure). ReadsText of None (Err f)) (sym bad.0) (refl, tt)
-
-pub of_first : (of : TextOf) (known : Option (List ℕ)) (bytes : List ℕ) (read : Result (String Global) Failure)
-    → IfSome known (λ all. bytes ≡ take (most_text + 1) all) → IfOk read (λ text. string_bytes text ≡ bytes)
-    → OnOk read (length bytes ≤ most_text) → IfErr read (IsNoTextOf of bytes) → ReadsText of known read
-of_first of None bytes (Ok text) is same short err = tt
-of_first of None bytes (Err why) is same short err = unknown of bytes why err
-of_first of (Some all) bytes (Ok text) is same short err = same ∙ whole all bytes is short
-of_first of (Some all) bytes (Err why) is same short err = cut_short of all bytes why is err
-
-pub not_long : (bytes : List ℕ) (read : Result (String Global) Failure) → IfOk read (λ text. string_bytes text ≡ bytes)
-    → OnOk read (length bytes ≤ most_text) → IfOk read (λ text. length (string_bytes text) ≤ most_text)
-not_long bytes (Ok text) same short = subst (λ (t : List ℕ). length t ≤ most_text) (sym same) short
-not_long bytes (Err why) same short = tt
-
 unread : (why : NoText) → IsUnread None why
 unread Unreadable = tt
 unread TooLong = tt
 unread NotUtf8 = tt
+
+-- what is read of the first bytes of a file is read of the file
+pub text_read : (of : TextOf) (known : Option (List ℕ)) (bytes : List ℕ) (text : String Global)
+    → IfSome known (λ all. bytes ≡ take (most_text + 1) all) → string_bytes text ≡ bytes → length bytes ≤ most_text
+    → ReadsText of known (Ok text)
+text_read of None bytes text is same short = tt
+text_read of (Some all) bytes text is same short = same ∙ whole all bytes is short
+
+pub not_read : (of : TextOf) (known : Option (List ℕ)) (bytes : List ℕ) (why : NoText)
+    → IfSome known (λ all. bytes ≡ take (most_text + 1) all) → IsNoText bytes why → ReadsText of known (Err (failure.NoText of why))
+not_read of None bytes why is none = (refl, unread why)
+not_read of (Some all) bytes Unreadable is none = absurd none
+not_read of (Some all) bytes TooLong is long = let len = begins all bytes is in (refl, omega (arith, len, long))
+not_read of (Some all) bytes NotUtf8 is bad =
+    (refl, subst (λ (t : List ℕ). (length t ≤ most_text) × ¬ IsUtf8 t) (whole all bytes is bad.0) bad)
+
+pub not_long : (bytes : List ℕ) (text : String Global) → string_bytes text ≡ bytes → length bytes ≤ most_text
+    → length (string_bytes text) ≤ most_text
+not_long bytes text same short = subst (λ (t : List ℕ). length t ≤ most_text) (sym same) short
 
 -- a text that was read gives a draft, or none
 pub draft_of_text : (known : Option (List ℕ)) (text : List ℕ) (draft : Result Draft Failure) → IfSome known (λ bytes. text ≡ bytes)

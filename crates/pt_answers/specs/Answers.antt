@@ -26,8 +26,8 @@ use Rattle.pt_check.specs.declared.error.CheckError.{CheckError}
 use Rattle.pt_apply.specs.PlanTexts.{text_of, PlanText}
 use Rattle.pt_plan.specs.Commits.{Applied, ApplyFailed}
 use Rattle.pt_plan.specs.declared.error.CommitError.{CommitError}
-use Rattle.pt_plan.specs.declared.finished.After.{After}
-use Rattle.pt_plan.specs.declared.finished.After.TheVariants as after
+use Rattle.pt_plan.specs.declared.checked.After.{After}
+use Rattle.pt_plan.specs.declared.checked.After.TheVariants as after
 use Rattle.pt_plan.specs.declared.like_error.LikeError.{LikeError}
 use Rattle.pt_plan.specs.declared.repair_error.RepairError.{RepairError}
 use Rattle.pt_report.specs.declared.reply.Reply.{Reply}

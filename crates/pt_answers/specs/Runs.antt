@@ -83,7 +83,7 @@ WithWords fresh words Next old new answer =
 abbrev pub other_as : Medium → Opening
 other_as medium = record { medium = medium; in_use = Refused }
 
--- the table of another image is taken over, or planned to be
+-- the table of another image is adopted, or planned to be
 abbrev pub RunsAdoption : {D : _} {T : Type 0} {B : _} → Ghosts D B → List ℕ → Opening → List ℕ → Medium → Adoption → PrimaryCopy
     → LockedBy → Doing (Call D T)
 RunsAdoption g image opening other medium Written primary locked_by old new answer =

@@ -1,3 +1,4 @@
 pub mod Answers
 pub mod Runs
+pub mod Tasks
 pub mod Wanted

@@ -80,8 +80,11 @@ impl<'a, const B: usize, R: Files<File = File> + AllocGlobal> FileImages<'a, B, 
     }
 }
 
-impl<'a, const B: usize, R: Files<File = File> + AllocGlobal> Images<B, FileDisk<B>, File>
-    for FileImages<'a, B, R> {
+impl<'a, const B: usize, R: Files<File = File> + AllocGlobal> Images<B> for FileImages<'a, B, R> {
+    type Disk = FileDisk<B>;
+
+    type File = File;
+
     ghost past = { λ images. images.past.calls };
 
     fn device_sector_size(&mut self, path: &str) -> Result<u64, NoDevice> {

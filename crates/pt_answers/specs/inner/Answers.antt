@@ -6,7 +6,8 @@ use Rattle.pt_sector.specs.Sectors.{Writes}
 use Rattle.pt_report.specs.declared.reply.Reply.{Reply}
 use Rattle.pt_answers.specs.declared.failure.Failure.{Failure}
 use Rattle.pt_answers.specs.declared.failure.Failure.TheVariants as failure
-use Rattle.pt_answers.specs.declared.failure.NoText.TheVariants.{TooLong, NotUtf8}
+use Rattle.pt_answers.specs.declared.failure.NoText.{NoText}
+use Rattle.pt_answers.specs.declared.failure.NoText.TheVariants.{Unreadable, TooLong, NotUtf8}
 use Rattle.pt_answers.specs.declared.failure.TextOf.{TextOf}
 use Rattle.pt_answers.specs.Answers.{IsTextOf}
 use Rattle.pt_answers.specs.Images.{most_text}
@@ -21,10 +22,11 @@ IsTextOrMemory b phases (Err told) = told ≡ failure.Memory
 abbrev pub IsUnreadable : Failure → Type 0
 IsUnreadable why = (why ≡ failure.Device) ⊎ (why ≡ failure.Memory)
 
--- bytes that are too many for such a text, or no UTF-8
-abbrev pub IsNoTextOf : TextOf → List ℕ → Failure → Type 0
-IsNoTextOf of bytes why = ((why ≡ failure.NoText of TooLong) × (most_text < length bytes))
-    ⊎ ((why ≡ failure.NoText of NotUtf8) × (length bytes ≤ most_text) × ¬ IsUtf8 bytes)
+-- why the bytes of a file are no text: too many, or no UTF-8
+abbrev pub IsNoText : List ℕ → NoText → Type 0
+IsNoText bytes Unreadable = ⊥
+IsNoText bytes TooLong = most_text < length bytes
+IsNoText bytes NotUtf8 = (length bytes ≤ most_text) × ¬ IsUtf8 bytes
 
 -- the text of a file whose bytes are known, if they are, or why it isn't read
 abbrev pub ReadsText : TextOf → Option (List ℕ) → Result (String Global) Failure → Type 0
@@ -32,7 +34,3 @@ ReadsText of known (Ok text) = IfSome known (λ bytes. string_bytes text ≡ byt
 ReadsText of known (Err (failure.NoText told why)) = (told ≡ of) × IsUnread known why
 ReadsText of known (Err failure.Memory) = Unit {0}
 ReadsText of known (Err _) = ⊥
-
--- bytes that are too many, or no UTF-8
-abbrev pub IsNoText : List ℕ → Failure → Type 0
-IsNoText bytes why = (why ≡ failure.PlanText 0) × ((most_text < length bytes) ⊎ ¬ IsUtf8 bytes)
