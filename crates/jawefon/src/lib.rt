@@ -150,6 +150,7 @@ pub use pt_plan::repair_by;
 pub use pt_plan::runs::Batch;
 pub use pt_plan::runs::Reply;
 pub use pt_plan::runs::session;
+pub use pt_recover::Reason;
 pub use pt_sector::Disk;
 pub use pt_sector::Extent;
 pub use pt_sector::Fault;

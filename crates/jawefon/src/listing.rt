@@ -1,7 +1,7 @@
 //! The partitions of a layout as a list.
 
 ghost use Rattle.std.specs.Prelude.{◌≡◌, IfOk};
-ghost use Rattle.pt_members.specs.Members.{members_of};
+ghost use Rattle.pt_members.specs.Rows.{members_of};
 
 use pt_layout::{Layout, Member};
 use std::alloc::{AllocError, Global};
@@ -13,9 +13,5 @@ use std::alloc::{AllocError, Global};
 pub fn members<const B: usize>(alloc: Global, layout: &Layout) -> Result<Vec<Member>, AllocError>
     ensures { IfOk result (λ list. list.items ≡ members_of B layout.now) }
 {
-    let mut list = Vec::new(alloc);
-    for row in layout.rows::<B>() {
-        list.push(row.member)?;
-    }
-    Ok(list)
+    layout.members::<B>().collect(alloc)
 }

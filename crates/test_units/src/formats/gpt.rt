@@ -6,11 +6,13 @@ ghost use Rattle.pt_gpt.specs.Entries.{IsTyped};
 use pt_disks::in_memory::CrashDisk;
 use pt_gpt::laws::{entry_reads_back, header_reads_back};
 use pt_gpt::{
-    CopyError, Entries, Entry, Header, Side, Table, array_at, array_crc, array_sectors,
-    decode_entry, encode_entry, encode_header, header_at, read_copy,
+    CopyError, Entries, Entry, Header, LastArray, Side, Table, array_at, array_crc, array_sectors,
+    decode_entry, encode_entry, encode_header, has_room, header_at, read_copy, read_head,
+    read_same, read_table,
 };
 use pt_guid::Guid;
 use pt_sector::{Disk, Lba, Sector};
+use pt_sum::crc32;
 use std::alloc::{AllocError, Global};
 use std::test::Fail;
 
@@ -195,4 +197,60 @@ fn tables_are_changed(rt: HostRuntime) -> Result<(), Fail> {
     let changed = changed_copy(rt.alloc())?;
     assert!(rt; changed == (false, Some(partition(2, 51, 60)), 2, 2));
     Ok(())
+}
+
+/// An array of four entries in one sector, with one in use that has this number. The unused ones are of these bytes but for the type.
+fn array_with(number: u8, unused: u8) -> Sector<512> {
+    let mut array = [unused; 512];
+    array[..128].copy_from_slice(&encode_entry(Some(&partition(number, 40, 50))));
+    for k in 1..4 {
+        array[128 * k..128 * k + 16].copy_from_slice(&[0; 16]);
+    }
+    array
+}
+
+/// Writes a side's copy with this array on a disk of 128 sectors.
+fn put_copy<D: Disk<512>>(disk: &mut D, side: Side, array: &Sector<512>) {
+    let header = Header {
+        array_crc: crc32(array),
+        ..header_of::<512>(side, 128, &[], 4)
+    };
+    put(disk, header.my, &encode_header(&header));
+    put(disk, header.array, array);
+}
+
+/// Whether the backup has the primary's table; `Memory` too where there is no room for two.
+fn have_one_table<D: Disk<512>>(alloc: Global, disk: &mut D) -> Result<bool, CopyError> {
+    if !has_room::<512>(disk.sectors()) {
+        return Err(CopyError::Memory);
+    }
+    let primary = read_head(disk, Side::Primary)?;
+    let mut last = LastArray::new(alloc);
+    let table = read_table(alloc, disk, Side::Primary, &primary, &mut last)?;
+    let backup = read_head(disk, Side::Backup)?;
+    read_same(alloc, disk, Side::Backup, &backup, &table, &mut last)
+}
+
+/// The same of copies with these arrays.
+fn arrays_agree(
+    alloc: Global,
+    primary: &Sector<512>,
+    backup: &Sector<512>,
+) -> Result<Result<bool, CopyError>, AllocError> {
+    let mut disk: CrashDisk<512> = CrashDisk::new(alloc, 128, 4)?;
+    put_copy(&mut disk, Side::Primary, primary);
+    put_copy(&mut disk, Side::Backup, backup);
+    Ok(have_one_table(alloc, &mut disk))
+}
+
+#[test]
+fn copies_of_one_table_are_told(rt: HostRuntime) {
+    let array = array_with(1, 0);
+    for (other, want) in [
+        (array, true),
+        (array_with(1, 7), true),
+        (array_with(2, 0), false),
+    ] {
+        assert!(rt; arrays_agree(rt.alloc(), &array, &other) == Ok(Ok(want)));
+    }
 }

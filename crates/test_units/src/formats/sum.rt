@@ -1,5 +1,6 @@
 //! Sums that others publish, and the sum bit by bit.
 
+use pt_resum::sum_of_both;
 use pt_sum::{Crc, crc32, xor16};
 
 // The sum of the bytes, a bit at a time.
@@ -62,4 +63,17 @@ fn published_table(rt: HostRuntime) {
 fn words_without_carry(rt: HostRuntime) {
     assert!(rt; xor16(&[0x01, 0x02, 0x03, 0x04]) == 0x0602);
     assert!(rt; xor16(&[]) == 0);
+}
+
+// The sums are zlib's: of "jawefon", of the bytes 0 to 127, of the bytes 5 i of 512 and of the bytes 7 i + 3 of 16,256, and of "jawefon"
+// with each of these behind it.
+#[test]
+fn sums_of_two_parts(rt: HostRuntime) {
+    let first = crc32(b"jawefon");
+    assert!(rt; first == 0x323D_A761);
+    assert!(rt; sum_of_both(first, 0x0000_0000, 0) == first);
+    assert!(rt; sum_of_both(first, 0x2465_0D57, 1) == 0xF770_6A44);
+    assert!(rt; sum_of_both(first, 0x2E7D_A1CD, 4) == 0xCB29_7E92);
+    assert!(rt; sum_of_both(first, 0xBFC7_A039, 127) == 0x30D2_057B);
+    assert!(rt; sum_of_both(0x0000_0000, 0x2465_0D57, 1) == 0x2465_0D57);
 }

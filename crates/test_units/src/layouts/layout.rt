@@ -147,7 +147,7 @@ fn is_told_healthy<const B: usize>(alloc: Global, disk: &mut CrashDisk<B>) -> bo
         Ok(told) => {
             told.head == Head::Protected
                 && told.finding == None
-                && told.found.is_ok()
+                && told.layout.is_some()
                 && told.primary
                 && !told.guarded.contains(Lba(0))
         }
