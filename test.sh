@@ -33,10 +33,10 @@ nice -n 19 python3 tests/side_by_side.py --beside "$said" "${turns[@]}" >"$scrip
 then callers/c_library.py "$ptab" "$archive"
 then callers/disk_library.py "$ptab" "$archive"
 then callers/bindings.py "$ptab" "$archive"
-then failures/failing_drive.py "$ptab" "$archive"
 then callers/package.py "$ptab" "$archive"
 then callers/install.py "$ptab" "$archive"
-docs/messages.py
+docs/texts.py
+callers/c_messages.py
 docs/meaning.py
 failures/runs.py "$faults"
 rows/rows.py "$ptab" "$doubles"
@@ -73,6 +73,7 @@ failures/killed_runs.py "$ptab"
 peers/as_itself.py "$ptab"
 peers/safe_tools.py "$ptab"
 docs/man_page.py "$ptab"
+alone failures/failing_drive.py "$ptab" "$archive"
 LIST
 running=$!
 set +m

@@ -2,10 +2,9 @@
 """Holds the documents against what they tell of. Each example session of README, of docs/commands.md, of docs/other_tools.md and of
 docs/table.md is run, a document's sessions in their order in one folder, and each command there answers what the document shows;
 docs/commands.md has one for each command, and says of each answer that isn't a success what to do. README's piece of a program stands in
-the example that it names, and examples/README.md lists each example. Each sentence that an error of the library prints stands in
-docs/commands.md. What docs/promises.md names is there, and it leaves out no public function with a contract (promised.py). Each file and
-each crate that the pages on the repository name is there. tests/README.md has each script as its own text has it, and the gate runs it or
-the page says that it doesn't. No line of a source is longer than the prover takes.
+the example that it names, and examples/README.md lists each example. What docs/promises.md names is there, and it leaves out no public
+function with a contract (promised.py). Each file and each crate that the pages on the repository name is there. tests/README.md has each
+script as its own text has it, and the gate runs it or the page says that it doesn't. No line of a source is longer than the prover takes.
 
 usage: tests/docs/docs.py PTAB [DOCUMENT...]
 """
@@ -21,7 +20,6 @@ TOP = os.path.join(os.path.dirname(os.path.abspath(__file__)), "..", "..")
 sys.path.insert(0, os.path.join(TOP, "tests", "shared"))
 from commands import COMMANDS
 from promised import promises, read, rows
-from sentences import ERRORS, is_told, sentences
 
 DOCUMENTS = ("README.md", "docs/commands.md", "docs/other_tools.md", "docs/table.md")
 # the pages on the repository; how they name a file and a crate; the files that they name of any crate, and names that stand for others
@@ -123,19 +121,6 @@ def examples():
     return len(there)
 
 
-def errors():
-    """How many sentences of errors stand in docs/commands.md, in the rows with their numbers: all."""
-    docs = read("docs/commands.md")
-    count = 0
-    for path, name, row in ERRORS:
-        for number, text in sentences(read(f"crates/{path}"), name):
-            rows = docs if row is None else "\n".join(line for line in docs.splitlines() if line.startswith(row.format(number)))
-            if not is_told(text, rows):
-                sys.exit(f"docs/commands.md doesn't say what {name} {number} prints: {text}")
-            count += 1
-    return count
-
-
 def places(name):
     """How many files and crates a document names; each is there. A path begins in the repository, beside the document, or in tests/;
     or in the crate, or beside the file, that its line names before it, or at all where it names none before."""
@@ -188,7 +173,7 @@ def scripts():
     for text, path in listed:
         if usages.get(path) != text:
             sys.exit(f"tests/README.md has {text}, and the script says {usages.get(path)}")
-        if (path in left_out) == bool(re.search(rf"^(?:then |even |odd )?{path}\b", gate, re.MULTILINE)):
+        if (path in left_out) == bool(re.search(rf"^(?:then |even |odd |alone )?{path}\b", gate, re.MULTILINE)):
             sys.exit(f"test.sh runs tests/{path} against tests/README.md, or doesn't run it")
     if set(usages) - {path for _, path in listed}:
         sys.exit(f"tests/README.md doesn't list {sorted(set(usages) - {path for _, path in listed})}")
@@ -217,7 +202,6 @@ def main():
     for name in NAMING:
         print(f"{name}: {places(name)} files and crates are there")
     print(f"tests/README.md: {scripts()} scripts are run as it says; {lines()} sources have no line of more than {WIDTH} characters")
-    print(f"errors: {errors()} sentences stand in docs/commands.md, 0 are missing")
 
 
 main()
