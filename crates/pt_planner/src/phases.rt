@@ -5,6 +5,6 @@ mod copies;
 mod reserved;
 mod turns;
 
-pub use copies::{Order, Setting, both_copies};
+pub use copies::{Order, both_copies};
 pub(crate) use reserved::{Reserved, touches, touches_owned};
 pub use turns::{one_label, within_mbr};

@@ -17,7 +17,7 @@ ghost use Rattle.pt_planner.specs.inner.PlanReads.{PlacesStop, IsMbrChange, Orde
 ghost use Rattle.pt_cases.specs.inner.Unplanned.{Hindered};
 
 use crate::chains::mbr_targets;
-use crate::phases::{Order, Setting, both_copies, one_label, within_mbr};
+use crate::phases::{Order, both_copies, one_label, within_mbr};
 use crate::places::{LabelTargets, label_targets};
 use crate::state::{MbrChange, changes_labels, is_broken, plain_order};
 use pt_apply::Plan;
@@ -156,10 +156,5 @@ pub(crate) fn to_gpt<const B: usize, D: Disk<B>>(
         return one_label(alloc, &survey.layout, is_broken(&survey.finding), places);
     }
     let order = order_of(disk, survey.head, survey.primary)?;
-    let setting = Setting {
-        sectors: disk.sectors(),
-        old: &survey.layout,
-        guarded: &survey.guarded,
-    };
-    both_copies(alloc, &order, &setting, table, places)
+    both_copies(alloc, disk.sectors(), survey, &order, table, places)
 }

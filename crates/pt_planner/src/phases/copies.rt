@@ -18,7 +18,7 @@ use pt_cases::targets::{
     PlanError, Target, TargetKind, first_change, first_owned_of_kind, in_order, new_writes,
 };
 use pt_gpt::Table;
-use pt_recover::{Layout, Trace};
+use pt_layout::{Layout, Survey, Trace};
 use pt_sector::Sector;
 use std::alloc::{AllocError, Global};
 
@@ -33,17 +33,6 @@ pub enum Order<const B: usize> {
     PrimaryFirst(Option<Sector<B>>),
     /// Both before sector 0: the disk is an MBR disk.
     FromMbr(Sector<B>),
-}
-
-/// What the writes of both copies meet on a disk.
-#[derive(Clone, Copy)]
-pub struct Setting<'a> {
-    /// How many sectors the disk has.
-    pub sectors: u64,
-    /// What it denotes.
-    pub old: &'a Option<Layout>,
-    /// The sectors that may be written in the switch alone.
-    pub guarded: &'a Trace,
 }
 
 /// How many phases come before the one with which the disk turns.
@@ -99,23 +88,22 @@ fn last_sector<const B: usize>(sectors: u64, head: &Option<Sector<B>>) -> Option
 /// The phases of both copies and these labels.
 fn arranged<const B: usize>(
     alloc: Global,
+    sectors: u64,
     order: &Order<B>,
-    setting: &Setting,
     table: &Table,
     labels: Vec<Write<B>>,
 ) -> Result<Plan<B>, AllocError>
     requires size { IsSectorSize B }
-    requires room { HasRoom B setting.now.sectors }
+    requires room { HasRoom B sectors }
     requires few { length table.now.entries ≤ 128 }
-    requires labels_in_range { PhaseInRange setting.now.sectors labels.items }
-    ensures phases { IfOk result (λ plan. Arranged B setting.now.sectors table.now
+    requires labels_in_range { PhaseInRange sectors labels.items }
+    ensures phases { IfOk result (λ plan. Arranged B sectors table.now
         (writes_of labels.entry.items) order.now (phases_of plan)) }
-    ensures in_range { IfOk result (InRange setting.now.sectors) }
+    ensures in_range { IfOk result (InRange sectors) }
     ensures some { IfOk result (λ plan. All (λ p. 0 < length p.items) plan.phases.items) }
     ensures short { IfOk result (λ plan. length plan.phases.items ≤ 5) }
     ensures count { IfOk result (λ plan. length (writes_in (phases_of plan)) ≤ copies_bound B (length labels.entry.items)) }
 {
-    let sectors = setting.sectors;
     match order {
         Order::BackupFirst(head) => {
             let last = last_sector(sectors, head);
@@ -138,22 +126,23 @@ fn arranged<const B: usize>(
 /// them are of one sector, then `ReusedInOneBatch`, and then `NotOneSwitch` for a label that changes or a guarded sector.
 pub fn both_copies<const B: usize>(
     alloc: Global,
+    sectors: u64,
+    survey: &Survey,
     order: &Order<B>,
-    setting: &Setting,
     table: &Table,
     places: Vec<Target<B>>,
 ) -> Result<Plan<B>, PlanError>
     requires size { IsSectorSize B }
-    requires room { HasRoom B setting.now.sectors }
+    requires room { HasRoom B sectors }
     requires few { length table.now.entries ≤ 128 }
-    requires in_range { All (λ t. t.at.0 < setting.now.sectors) places.items }
-    ensures plan { IfOk result (λ plan. (d : Sectors) (p : Layout) → length d ≡ setting.now.sectors
-        → CopiesStart d setting.now.old.now p table.now order.now setting.now.guarded.now places.entry.items
+    requires in_range { All (λ t. t.at.0 < sectors) places.items }
+    ensures plan { IfOk result (λ plan. (d : Sectors) (p : Layout) → length d ≡ sectors
+        → CopiesStart d survey.now.layout p table.now order.now survey.now.guarded places.entry.items
         → IsPlan B d p (phases_of plan)) }
-    ensures err { IfErr result (λ e. (d : Sectors) (p : Layout) → length d ≡ setting.now.sectors
-        → CopiesStart d setting.now.old.now p table.now order.now setting.now.guarded.now places.entry.items
-        → StopsBy B d setting.now.old.now p (HasNoCopies B d setting.now.old.now p) e) }
-    ensures in_range { IfOk result (InRange setting.now.sectors) }
+    ensures err { IfErr result (λ e. (d : Sectors) (p : Layout) → length d ≡ sectors
+        → CopiesStart d survey.now.layout p table.now order.now survey.now.guarded places.entry.items
+        → StopsBy B d survey.now.layout p (HasNoCopies B d survey.now.layout p) e) }
+    ensures in_range { IfOk result (InRange sectors) }
     ensures some { IfOk result (λ plan. All (λ p. 0 < length p.items) plan.phases.items) }
     ensures faultless { IfErr result (λ e. fault_in e ≡ None) }
     ensures short { IfOk result (λ plan. length plan.phases.items ≤ 5) }
@@ -163,8 +152,8 @@ pub fn both_copies<const B: usize>(
         None => return Err(PlanError::NotOneSwitch),
         Some(targets) => targets,
     };
-    let labels = new_writes(alloc, &targets, setting.guarded)?;
-    let plan = arranged(alloc, order, setting, table, labels)?;
-    accept(order, setting.old, setting.guarded, &targets, &plan)?;
+    let labels = new_writes(alloc, &targets, &survey.guarded)?;
+    let plan = arranged(alloc, sectors, order, table, labels)?;
+    accept(order, &survey.layout, &survey.guarded, &targets, &plan)?;
     Ok(plan)
 }

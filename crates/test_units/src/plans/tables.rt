@@ -6,8 +6,8 @@ use crate::plans::targets::one_partition;
 use pt_cases::targets::{PlanError, Target, TargetKind};
 use pt_gpt::{Entries, Table};
 use pt_guid::Guid;
-use pt_layout::{Layout, Trace};
-use pt_planner::phases::{Order, Setting, both_copies};
+use pt_layout::{Head, Layout, Survey, Trace};
+use pt_planner::phases::{Order, both_copies};
 use pt_sector::Lba;
 use std::alloc::{AllocError, Global};
 use std::test::Fail;
@@ -66,13 +66,12 @@ fn two(alloc: Global, first: u64, second: u64) -> Result<Vec<Target<512>>, Alloc
 fn counts(
     alloc: Global,
     order: &Order<512>,
-    setting: &Setting,
+    survey: &Survey,
     places: Vec<Target<512>>,
 ) -> Result<[usize; 5], PlanError>
-    requires sectors { setting.now.sectors ≡ 4096 }
     requires in_range { All (λ t. t.at.0 < 4096) places.items }
 {
-    let plan = both_copies(alloc, order, setting, &table(alloc)?, places)?;
+    let plan = both_copies(alloc, SECTORS, survey, order, &table(alloc)?, places)?;
     let mut counts = [0; 5];
     for i in 0..plan.phases.len() {
         if i < 5 {
@@ -82,14 +81,15 @@ fn counts(
     Ok(counts)
 }
 
-/// A disk that denotes this, with these guarded sectors.
-fn setting<'a>(old: &'a Option<Layout>, guarded: &'a Trace) -> Setting<'a>
-    ensures { result.sectors ≡ 4096 }
-{
-    Setting {
-        sectors: SECTORS,
-        old,
+/// The survey of a protective disk that denotes this, with these guarded sectors.
+fn survey(alloc: Global, layout: Option<Layout>, guarded: Trace) -> Survey {
+    Survey {
+        head: Head::Protected,
+        layout,
+        finding: None,
+        primary: true,
         guarded,
+        trace: Trace::new(alloc),
     }
 }
 
@@ -101,8 +101,8 @@ fn counts_on_none(
 ) -> Result<[usize; 5], PlanError>
     requires in_range { All (λ t. t.at.0 < 4096) places.items }
 {
-    let guarded = Trace::new(alloc);
-    counts(alloc, order, &setting(&None, &guarded), places)
+    let survey = survey(alloc, None, Trace::new(alloc));
+    counts(alloc, order, &survey, places)
 }
 
 #[test]
@@ -126,7 +126,7 @@ fn counts_on_one(
     guarded.add_one(1)?;
     guarded.add_one(50)?;
     let old = Some(one_partition(alloc, SECTORS));
-    let on_one = setting(&old, &guarded);
+    let on_one = survey(alloc, old, guarded);
     let order = Order::BackupFirst(None);
     Ok(counts(alloc, &order, &on_one, places))
 }

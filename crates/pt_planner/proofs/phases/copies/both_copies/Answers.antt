@@ -9,7 +9,7 @@ use Rattle.pt_planner.proofs.phases.copies.both_copies.Goals as goal
 pub returns-in-None : goal.returns-in-None
 returns-in-None g c = record {
   plan = tt;
-  err = λ d p count start. shared_stops d c.args.setting.now.old.now p c.args.table.now c.args.order.now c.args.setting.now.guarded.now
+  err = λ d p count start. shared_stops d c.args.survey.now.layout p c.args.table.now c.args.order.now c.args.survey.now.guarded
       c.args.places.items c.requires.size start c.in-None.ensures.none;
   in_range = tt;
   some = tt;
@@ -31,8 +31,8 @@ arranged-requires g c = (
           c.requires.room,
           (
             c.requires.few,
-            c.in_ok-labels.ensures.in_range c.args.setting.now.sectors
-                (sorted_below c.args.setting.now.sectors c.args.places.items c.in-Some.targets.items c.deref.result.now
+            c.in_ok-labels.ensures.in_range c.args.sectors
+                (sorted_below c.args.sectors c.args.places.items c.in-Some.targets.items c.deref.result.now
                 c.in-Some.ensures.some c.deref.ensures.value c.requires.in_range),
           ),
         ),
@@ -72,8 +72,8 @@ returns-in_err-accept g c =
     let e = err_from_is_err_and c.from_residual-in_err-accept.result c.from_residual-in_err-accept.ensures.1 in
     record {
       plan = rw e.1 tt;
-      err = rw (e.1, e.2) (stops c.args.setting.now.sectors c.args.setting.now.old.now c.args.table.now c.args.order.now
-          c.args.setting.now.guarded.now c.args.places.items c.in-Some.targets.items c.deref.result.now
+      err = rw (e.1, e.2) (stops c.args.sectors c.args.survey.now.layout c.args.table.now c.args.order.now
+          c.args.survey.now.guarded c.args.places.items c.in-Some.targets.items c.deref.result.now
           c.deref-2.result.now
           (writes_of c.in_ok-labels.labels.items)
           (phases_of c.in_ok-plan.plan) c.requires.size c.in-Some.ensures.some c.deref.ensures.value c.deref-2.ensures.value
@@ -81,7 +81,7 @@ returns-in_err-accept g c =
           c.in_err-accept.field-0.0 c.in_err-accept.ensures.err);
       in_range = rw e.1 tt;
       some = rw e.1 tt;
-      faultless = rw (e.1, e.2) (refused_faultless c.args.setting.now.old.now c.args.setting.now.guarded.now c.args.order.now
+      faultless = rw (e.1, e.2) (refused_faultless c.args.survey.now.layout c.args.survey.now.guarded c.args.order.now
           c.deref-2.result.now (phases_of c.in_ok-plan.plan) c.in_err-accept.field-0.0 c.in_err-accept.ensures.err);
       short = rw e.1 tt;
       count = rw e.1 tt;
@@ -89,7 +89,7 @@ returns-in_err-accept g c =
 
 pub returns : goal.returns
 returns g c = record {
-  plan = plans c.args.setting.now.sectors c.args.setting.now.old.now c.args.table.now c.args.order.now c.args.setting.now.guarded.now
+  plan = plans c.args.sectors c.args.survey.now.layout c.args.table.now c.args.order.now c.args.survey.now.guarded
       c.args.places.items c.in-Some.targets.items c.deref.result.now c.deref-2.result.now
       (writes_of c.in_ok-labels.labels.items)
       (phases_of c.in_ok-plan.plan) c.requires.size c.in-Some.ensures.some c.deref.ensures.value c.deref-2.ensures.value
@@ -100,7 +100,7 @@ returns g c = record {
   some = c.in_ok-plan.ensures.some;
   faultless = tt;
   short = c.in_ok-plan.ensures.short;
-  count = copies_few c.args.setting.now.guarded.now c.args.places.items c.in-Some.targets.items c.deref.result.now
+  count = copies_few c.args.survey.now.guarded c.args.places.items c.in-Some.targets.items c.deref.result.now
       c.in_ok-labels.labels.items _ c.in_ok-plan.ensures.count c.in_ok-labels.ensures.new c.deref.ensures.value
       c.in-Some.ensures.some;
 }
