@@ -7,12 +7,12 @@ use crate::mbr::{Mbr, decode_mbr, encode_mbr, protective, put_record, read_chain
 use crate::sums::{Crc, crc32, xor16};
 use crate::{
     Access, After, Body, Code, CommitError, CrashDisk, Disk, Edit, End, Extent, Fault, FileDisk,
-    Guid, InUse, Layout, Lba, MemDisk, NoDevice, NoTable, Overlay, Path, Primary, ReadCache, Room,
-    Row, Rows, Run, Sector, SetError, Source, apply, code_of_type, commit, commit_draft,
-    device_sector_size, edit, entry_type, entry_type_name, free_blocks, fresh, guids_for, is_owned,
-    is_table, layout_after, make_plan, parse_guid, plan_draft, read_draft, record_type,
-    record_type_name, recover, recover_traced, table_for, table_text, type_of_code, type_of_record,
-    unsound,
+    Guid, InUse, Layout, Lba, MemDisk, NoDevice, NoTable, Overlay, Path, Primary, ReadCache,
+    Reason, Room, Row, Rows, Run, Sector, SetError, Source, apply, code_of_type, commit,
+    commit_draft, device_sector_size, edit, entry_type, entry_type_name, free_blocks, fresh,
+    guids_for, is_owned, is_table, layout_after, make_plan, parse_guid, plan_draft, read_draft,
+    record_type, record_type_name, recover, recover_traced, table_for, table_text, type_of_code,
+    type_of_record, unsound,
 };
 use std::alloc::Global;
 use std::test::Fail;
@@ -127,6 +127,17 @@ fn an_mbr_becomes_a_gpt(rt: HostRuntime) -> Result<(), Fail> {
     commit(rt.alloc(), &mut disk, &edits, &[fresh([1; 16])])?;
     let made = recover(rt.alloc(), &mut disk)?;
     assert!(rt; matches!(&made.body, Body::Gpt(_)));
+    Ok(())
+}
+
+/// A disk too small for a GPT denotes nothing for that reason, which is no failure.
+#[test]
+fn why_a_disk_has_no_table(rt: HostRuntime) -> Result<(), Fail> {
+    let mut disk: MemDisk<512> = MemDisk::new(rt.alloc(), 67)?;
+    match recover(rt.alloc(), &mut disk) {
+        Ok(_) => assert!(rt; false),
+        Err(why) => assert!(rt; why.reason() == Ok(Reason::TooSmall)),
+    }
     Ok(())
 }
 
