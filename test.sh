@@ -35,6 +35,7 @@ then callers/disk_library.py "$ptab" "$archive"
 then callers/bindings.py "$ptab" "$archive"
 then callers/package.py "$ptab" "$archive"
 then callers/install.py "$ptab" "$archive"
+read_bodies.py
 docs/texts.py
 callers/c_messages.py
 docs/meaning.py
