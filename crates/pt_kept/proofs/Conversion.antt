@@ -2,13 +2,13 @@
 use Rattle.std.specs.Prelude.{◌≡◌, ◌≢◌, ◌<◌, ◌≤◌, ◌⊎◌, ◌+◌, ◌-◌, ◌*◌, ◌++◌, ◌∷◌, [], ℕ, suc, Bool, true, false, cond, List, flat_map, map}
 use Rattle.std.specs.Prelude.{filter, length, replicate, slice_index_or, Option, Some, None, IfSome, Contains, if◌then◌else◌, nat_eq}
 use Rattle.std.proofs.Common.{refl, sym, ap, subst, ◌∙◌, inl, inr, arith}
-use Rattle.std.proofs.lemmas.Bool.{cases_lt, true≢false, eqb-true, eqb-false}
+use Rattle.std.proofs.lemmas.Bool.{true≢false, eqb-true, eqb-false}
 use Rattle.std.proofs.lemmas.Slice.Eq.{bytes_eq-Decides}
 use Rattle.pt_guid.specs.Codes.{freebsd, type_of}
 use Rattle.pt_guid.proofs.Terms.{codes_differ}
 use Rattle.pt_guid.specs.Guids.{mixed}
 use Rattle.pt_guid.specs.declared.guid.Guid.{Guid}
-use Rattle.pt_gpt.specs.Copies.{array_len, AllTyped, HasRoom}
+use Rattle.pt_gpt.specs.Copies.{AllTyped}
 use Rattle.pt_gpt.specs.Entries.{IsTyped}
 use Rattle.pt_gpt.specs.declared.entry.Entry.{Entry}
 use Rattle.pt_gpt.specs.declared.table.Table.{Table}
