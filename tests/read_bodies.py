@@ -38,7 +38,8 @@ def copy_with(room, bodies):
     and the texts that have bodies, by crate and file."""
     with open(f"{ROOT}/crates.txt", encoding="utf-8") as it:
         put(room, "crates.txt", f"{it.read().replace(' staticlib:', ':')}\n{NAME}: {' '.join(it.name for it in bodies)}\n")
-    shutil.copytree(f"{ROOT}/crates", f"{room}/crates", ignore=shutil.ignore_patterns("out", "proofs"))
+    for crate in crates.crates_of(ROOT).values():
+        shutil.copytree(f"{crate.folder}/src", f"{room}/crates/{crate.name}/src")
     put(room, f"crates/{NAME}/src/main.rt", MAIN)
     texts = {crate: texts_with(crate, with_right_ones(some)) for crate, some in bodies.items()}
     for crate, found in texts.items():
