@@ -122,8 +122,9 @@ fn arranged<const B: usize>(
 
 /// The plan that writes both copies of a GPT's table, in the order that the disk asks for, and the new labels.
 ///
-/// `places` are the targets of the wanted layout's label places, in any order. It is `NotOneSwitch` first where two of
-/// them are of one sector, then `ReusedInOneBatch`, and then `NotOneSwitch` for a label that changes or a guarded sector.
+/// `sectors` is how many the disk has, and `survey` what it tells: its layout and its guarded sectors count here. `places` are
+/// the targets of the wanted layout's label places, in any order. It is `NotOneSwitch` first where two of them are of one
+/// sector, then `ReusedInOneBatch`, and then `NotOneSwitch` for a label that changes or a guarded sector.
 pub fn both_copies<const B: usize>(
     alloc: Global,
     sectors: u64,
